@@ -14,7 +14,7 @@ use Rattle.argon_kdf.specs.Tables.{Table, put, columns_made, latest}
 use Rattle.argon_kdf.specs.Filling.{joined_block, new_block, with_block}
 use Rattle.argon_kdf.specs.SeenBlocks.{IsOutside, block_at, seen_block}
 use Rattle.argon_kdf.specs.Memory.{Shows}
-use Rattle.argon_kdf.specs.Segments.{Begun}
+use Rattle.argon_kdf.specs.Segments.{BeginsSegment}
 use Rattle.argon_kdf.proofs.Referring.{reference_apart}
 use Rattle.argon_kdf.proofs.SliceLemmas.{slice_of, index_of, slice_outside, block_is, block_same}
 use Rattle.argon_kdf.proofs.SliceLemmas.{seen_own, seen_other, appended_here, appended_other}
@@ -44,7 +44,7 @@ other_made x w s i k l other = elim (cases_lt l i) [
 pub Begun_start : (x : Shape) (before m : List (List (List (List ℕ)))) (seg : List (List ℕ)) (b : Table)
     (w s i : ℕ) → 2 ≤ x.width → ((n : ℕ) → n ≢ s → slice_index_or m n [] ≡ slice_index_or before n [])
     → seg ≡ slice_index_or (slice_index_or before s []) i []
-    → Shows x (block_at x before) b (place w s 0 0) → Begun x m seg b (place w s i 0)
+    → Shows x (block_at x before) b (place w s 0 0) → BeginsSegment x m seg b (place w s i 0)
 Begun_start x before m seg b w s i wide kept taken st = record {
   shows = λ l z low inside side.
       let from_memory : seen_block x m seg (place w s i 0) l z ≡ block_at x before l z =
@@ -122,8 +122,8 @@ seen_step x m seg to w s i k l z new written apart = elim (cases_eq (z / x.width
 ]
 
 Begun_put : (x : Shape) (m : List (List (List (List ℕ)))) (seg to : List (List ℕ)) (b : Table)
-    (w s i k : ℕ) (new : List ℕ) → Written seg to k new → k < x.width → Begun x m seg b (place w s i k)
-    → Begun x m to (put b w i (s * x.width + k) new) (place w s i (k + 1))
+    (w s i k : ℕ) (new : List ℕ) → Written seg to k new → k < x.width → BeginsSegment x m seg b (place w s i k)
+    → BeginsSegment x m to (put b w i (s * x.width + k) new) (place w s i (k + 1))
 Begun_put x m seg to b w s i k new written low begun = record {
   shows = λ l z lane inside side.
       elim (cases_eq l i) [
@@ -150,8 +150,8 @@ Begun_put x m seg to b w s i k new written low begun = record {
 
 pub Begun_next : (x : Shape) (h0 : List ℕ) (m : List (List (List (List ℕ)))) (seg to : List (List ℕ)) (b : Table)
     (w s i k : ℕ) (new : List ℕ) → Written seg to k new → k < x.width
-    → new ≡ new_block x h0 (place w s i k) (latest x b (place w s i k)) → Begun x m seg b (place w s i k)
-    → Begun x m to (with_block x h0 b (place w s i k)) (place w s i (k + 1))
+    → new ≡ new_block x h0 (place w s i k) (latest x b (place w s i k)) → BeginsSegment x m seg b (place w s i k)
+    → BeginsSegment x m to (with_block x h0 b (place w s i k)) (place w s i (k + 1))
 unfolding with_block
 Begun_next x h0 m seg to b w s i k new written low made begun =
     rw (← made) (Begun_put x m seg to b w s i k new written low begun)
@@ -160,7 +160,7 @@ Begun_next x h0 m seg to b w s i k new written low made begun =
 
 pub Begun_made : (x : Shape) (m : List (List (List (List ℕ)))) (seg : List (List ℕ)) (b : Table) (w s i k : ℕ)
     → i < x.lanes → s < 4 → k < x.width → s * x.width + k < columns x
-    → Begun x m seg b (place w s i x.width) → slice_index_or seg k zero_block ≡ b w i (s * x.width + k)
+    → BeginsSegment x m seg b (place w s i x.width) → slice_index_or seg k zero_block ≡ b w i (s * x.width + k)
 Begun_made x m seg b w s i k lane slice low inside begun =
     let made : columns_made x (place w s i x.width) i ≡ s * x.width + x.width = made_here x w s i x.width in
     ap (λ (n : ℕ). slice_index_or seg n zero_block) (sym (index_of x.width s k low))
@@ -191,7 +191,7 @@ pub joined_seen : (x : Shape) (m : List (List (List (List ℕ)))) (seg : List (L
     → word ≡ reference_word x at previous
     → lane < x.lanes → lane ≡ reference_lane x at (word / 2 ^ 32) → column < columns x
     → column ≡ reference_column x at lane (word % 2 ^ 32)
-    → referred ≡ seen_block x m seg at lane column → Begun x m seg b at → new ≡ joined previous referred
+    → referred ≡ seen_block x m seg at lane column → BeginsSegment x m seg b at → new ≡ joined previous referred
     → new ≡ joined_block x at (latest x b at)
 unfolding joined_block
 joined_seen x m seg b at before word lane column previous referred new wide within before_inside before_is previous_is word_is lane_low lane_is column_inside column_is referred_is begun made =
@@ -210,7 +210,7 @@ xored_swap y z =
 -- in a later pass G's block is xored into the one that the segment has there
 pub new_later_seen : (x : Shape) (h0 : List ℕ) (m : List (List (List (List ℕ)))) (seg : List (List ℕ)) (b : Table)
     (w s i k : ℕ) (block old new : List ℕ) → 0 < w → i < x.lanes → k < x.width
-    → s * x.width + k < columns x → Begun x m seg b (place w s i k)
+    → s * x.width + k < columns x → BeginsSegment x m seg b (place w s i k)
     → block ≡ joined_block x (place w s i k) (latest x b (place w s i k))
     → old ≡ slice_index_or seg k zero_block
     → new ≡ xored old block → new ≡ new_block x h0 (place w s i k) (latest x b (place w s i k))

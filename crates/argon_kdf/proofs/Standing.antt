@@ -8,7 +8,7 @@ use Rattle.std.proofs.lemmas.Bool.Decides.{nat_tests}
 use Rattle.argon_kdf.specs.Blocks.{zero_block}
 use Rattle.argon_kdf.specs.Shapes.{Shape, columns, block_count, place}
 use Rattle.argon_kdf.specs.Tables.{Table, empty_table, put, columns_made, latest}
-use Rattle.argon_kdf.specs.Memory.{Shows, Stands}
+use Rattle.argon_kdf.specs.Memory.{Shows, IsFilledTo}
 use Rattle.argon_kdf.specs.declared.layout.Place.{Place}
 
 -- ---- how many columns are made
@@ -116,8 +116,8 @@ other_lane n l i z j low high other e =
 -- a block is written
 pub Stands_put : (x : Shape) (memory : List (List ℕ)) (b : Table) (w s i k at : ℕ) (new : List ℕ)
     → i < x.lanes → s * x.width + k < columns x
-    → at ≡ i * columns x + (s * x.width + k) → at < block_count x → Stands x memory b (place w s i k)
-    → Stands x (slice_set memory at new) (put b w i (s * x.width + k) new) (place w s i (k + 1))
+    → at ≡ i * columns x + (s * x.width + k) → at < block_count x → IsFilledTo x memory b (place w s i k)
+    → IsFilledTo x (slice_set memory at new) (put b w i (s * x.width + k) new) (place w s i (k + 1))
 Stands_put x memory b w s i k at new lane column offset within st = record {
   whole = length-set memory at new ∙ st.whole;
   shows = λ l z low inside.
@@ -142,8 +142,8 @@ Stands_put x memory b w s i k at new lane column offset within st = record {
 
 -- the filling goes on to a place where it has made as many columns
 Stands_same : (x : Shape) (memory : List (List ℕ)) (b : Table) (at to : Place) → at.pass ≡ to.pass
-    → ((l : ℕ) → l < x.lanes → columns_made x at l ≡ columns_made x to l) → Stands x memory b at
-    → Stands x memory b to
+    → ((l : ℕ) → l < x.lanes → columns_made x at l ≡ columns_made x to l) → IsFilledTo x memory b at
+    → IsFilledTo x memory b to
 Stands_same x memory b at to pass made st = record {
   whole = st.whole;
   shows = λ l z low inside. st.shows l z low inside ∙ latest_same x b b at to l z pass (made l low) refl refl;
@@ -151,8 +151,8 @@ Stands_same x memory b at to pass made st = record {
 
 -- from the end of a segment to the next lane
 pub Stands_lane : (x : Shape) (memory : List (List ℕ)) (b : Table) (w s i : ℕ)
-    → Stands x memory b (place w s i x.width)
-    → Stands x memory b (place w s (i + 1) 0)
+    → IsFilledTo x memory b (place w s i x.width)
+    → IsFilledTo x memory b (place w s (i + 1) 0)
 Stands_lane x memory b w s i =
     Stands_same x memory b (place w s i x.width) (place w s (i + 1) 0) refl (λ l low.
     elim (cases_lt l i) [
@@ -172,8 +172,8 @@ Stands_lane x memory b w s i =
 
 -- from the end of a slice to the next
 pub Stands_slice : (x : Shape) (memory : List (List ℕ)) (b : Table) (w s : ℕ)
-    → Stands x memory b (place w s x.lanes 0)
-    → Stands x memory b (place w (s + 1) 0 0)
+    → IsFilledTo x memory b (place w s x.lanes 0)
+    → IsFilledTo x memory b (place w (s + 1) 0 0)
 Stands_slice x memory b w s =
     Stands_same x memory b (place w s x.lanes 0) (place w (s + 1) 0 0) refl (λ l low.
     made_before x w s x.lanes 0 l low
@@ -207,8 +207,8 @@ Shows_pass x now b w st = record {
       ∙ sym (latest_old x b (place (w + 1) 0 0 0) l z (none_made x (w + 1) l z));
 }
 
-pub Stands_pass : (x : Shape) (memory : List (List ℕ)) (b : Table) (w : ℕ) → Stands x memory b (place w 4 0 0)
-    → Stands x memory b (place (w + 1) 0 0 0)
+pub Stands_pass : (x : Shape) (memory : List (List ℕ)) (b : Table) (w : ℕ) → IsFilledTo x memory b (place w 4 0 0)
+    → IsFilledTo x memory b (place (w + 1) 0 0 0)
 Stands_pass x memory b w st = record {
   whole = st.whole;
   shows = (Shows_pass x (λ l z. slice_index_or memory (l * columns x + z) []) b w
@@ -226,7 +226,7 @@ Shows_start x now zeros = record {
 
 pub Stands_start : (x : Shape) (memory : List (List ℕ)) → length memory ≡ block_count x
     → ((n : ℕ) → n < block_count x → slice_index_or memory n [] ≡ zero_block)
-    → Stands x memory empty_table (place 0 0 0 0)
+    → IsFilledTo x memory empty_table (place 0 0 0 0)
 Stands_start x memory whole zeros = record {
   whole = whole;
   shows = (Shows_start x (λ l z. slice_index_or memory (l * columns x + z) []) (λ l z low inside.
@@ -244,6 +244,6 @@ Shows_read x now b t l z low inside st =
     st.shows l z low inside ∙ latest_old x b (place t 0 0 0) l z (none_made x t l z)
 
 pub Stands_read : (x : Shape) (memory : List (List ℕ)) (b : Table) (t l z : ℕ) → l < x.lanes → z < columns x
-    → Stands x memory b (place t 0 0 0) → slice_index_or memory (l * columns x + z) [] ≡ b (t - 1) l z
+    → IsFilledTo x memory b (place t 0 0 0) → slice_index_or memory (l * columns x + z) [] ≡ b (t - 1) l z
 Stands_read x memory b t l z low inside st =
     st.shows l z low inside ∙ latest_old x b (place t 0 0 0) l z (none_made x t l z)

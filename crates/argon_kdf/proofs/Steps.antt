@@ -14,7 +14,7 @@ use Rattle.argon_kdf.specs.Filling.{with_slices, with_passes}
 use Rattle.argon_kdf.specs.Argon2id.{lanes_xored, tag_of}
 use Rattle.argon_kdf.specs.LongDigest.{long_digest}
 use Rattle.byte_words.specs.Words.{bytes_of_words}
-use Rattle.argon_kdf.specs.Memory.{Stands}
+use Rattle.argon_kdf.specs.Memory.{IsFilledTo}
 use Rattle.argon_kdf.proofs.Standing.{Stands_put}
 
 -- what the program reads on the way to a block
@@ -32,7 +32,7 @@ pub record Reads (x : Shape) (memory : List (List ℕ)) (at : Place)
 
 pub joined_from : (x : Shape) (memory : List (List ℕ)) (b : Table) (at : Place)
     (before from word lane column to : ℕ) (new : List ℕ)
-    → Reads x memory at before from word lane column to → at.lane < x.lanes → Stands x memory b at
+    → Reads x memory at before from word lane column to → at.lane < x.lanes → IsFilledTo x memory b at
     → new ≡ joined (slice_index_or memory from []) (slice_index_or memory to [])
     → new ≡ joined_block x at (latest x b at)
 unfolding joined_block
@@ -65,7 +65,7 @@ new_joined x h0 at now column new first past is made =
 
 pub new_later : (x : Shape) (h0 : List ℕ) (memory : List (List ℕ)) (b : Table) (at : Place) (column here : ℕ)
     (block new : List ℕ) → 0 < at.pass
-    → at.lane < x.lanes → column < columns x → column ≡ column_of x at → Stands x memory b at
+    → at.lane < x.lanes → column < columns x → column ≡ column_of x at → IsFilledTo x memory b at
     → block ≡ joined_block x at (latest x b at)
     → here ≡ at.lane * columns x + column → new ≡ xored block (slice_index_or memory here [])
     → new ≡ new_block x h0 at (latest x b at)
@@ -80,8 +80,8 @@ new_later x h0 memory b at column here block new later low inside is st joined_i
 pub Stands_block : (x : Shape) (h0 : List ℕ) (memory : List (List ℕ)) (b : Table) (at : Place) (offset : ℕ)
     (new : List ℕ) → IsWithin x at
     → offset ≡ at.lane * columns x + column_of x at → offset < block_count x
-    → new ≡ new_block x h0 at (latest x b at) → Stands x memory b at
-    → Stands x (slice_set memory offset new) (with_block x h0 b at)
+    → new ≡ new_block x h0 at (latest x b at) → IsFilledTo x memory b at
+    → IsFilledTo x (slice_set memory offset new) (with_block x h0 b at)
     (place at.pass at.slice at.lane (at.index + 1))
 unfolding with_block
 Stands_block x h0 memory b at offset new within offset_is inside made st =

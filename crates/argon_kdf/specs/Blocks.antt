@@ -32,8 +32,8 @@ first_rows_permuted block zero = block
 first_rows_permuted block (suc n) = row_permuted (first_rows_permuted block n) n
 
 -- with all its rows permuted
-abbrev pub rows_permuted : List ℕ → List ℕ
-rows_permuted block = first_rows_permuted block 8
+abbrev pub permuted_rows : List ℕ → List ℕ
+permuted_rows block = first_rows_permuted block 8
 
 -- the square with its rows and columns of registers exchanged
 unfoldable pub transposed : List ℕ → List ℕ
@@ -44,4 +44,4 @@ transposed block =
 unfoldable pub joined : List ℕ → List ℕ → List ℕ
 joined x y =
     let r = xored x y in
-    xored (transposed (rows_permuted (transposed (rows_permuted r)))) r
+    xored (transposed (permuted_rows (transposed (permuted_rows r)))) r

@@ -11,7 +11,7 @@ pub record Shows (x : Shape) (now : ℕ → ℕ → List ℕ) (table : Table) (a
 
 -- the memory has the lanes one after the other, and in each column the latest block when the filling has
 -- come to a place
-pub record Stands (x : Shape) (memory : List (List ℕ)) (table : Table) (at : Place) : Type 0 where
+pub record IsFilledTo (x : Shape) (memory : List (List ℕ)) (table : Table) (at : Place) : Type 0 where
   pub whole : length memory ≡ block_count x
   pub shows : (lane column : ℕ) → lane < x.lanes → column < columns x
       → slice_index_or memory (lane * columns x + column) [] ≡ latest x table at lane column

@@ -10,7 +10,7 @@ use Rattle.argon_kdf.specs.SeenBlocks.{IsOutside, seen_block}
 use Rattle.argon_kdf.specs.Tables.{Table, latest}
 
 -- capacity for a slice: for each lane a vector that has no block yet and holds as many as a segment
-pub record IsRoom (x : Shape) (segments : List (Vec (List ℕ) Global)) : Type 0 where
+pub record HasSegmentSpace (x : Shape) (segments : List (Vec (List ℕ) Global)) : Type 0 where
   pub lanes : length segments ≡ x.lanes
   pub empty : All (λ v. v.items ≡ []) segments
   pub room : All (λ v. vec_capacity v ≡ x.width) segments
@@ -23,7 +23,7 @@ pub record IsReadable (x : Shape) (memory : List (List (List (List ℕ)))) (segm
   pub own : (k : ℕ) → k < x.width → (at.pass ≡ 0 → k < at.index) → k < length segment
 
 -- in its own lane, and in each column that is not one of the slice's, the segment sees the latest block
-pub record Begun (x : Shape) (memory : List (List (List (List ℕ)))) (segment : List (List ℕ))
+pub record BeginsSegment (x : Shape) (memory : List (List (List (List ℕ)))) (segment : List (List ℕ))
     (table : Table) (at : Place) : Type 0 where
   pub shows : (lane column : ℕ) → lane < x.lanes → column < columns x
       → (lane ≡ at.lane) ⊎ IsOutside x at.slice column

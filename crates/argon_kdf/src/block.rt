@@ -2,7 +2,7 @@
 
 ghost use Rattle.std.specs.Prelude.{◌≡◌, ◌<◌};
 ghost use Rattle.argon_kdf.specs.Permutation.{mixed, permuted, product_sum};
-ghost use Rattle.argon_kdf.specs.Blocks.{joined, row, row_permuted, rows_permuted, transposed, xored};
+ghost use Rattle.argon_kdf.specs.Blocks.{joined, row, row_permuted, permuted_rows, transposed, xored};
 
 // 1,024 bytes, as words.
 pub(crate) type Block = [u64; 128];
@@ -198,7 +198,7 @@ fn permute_column(block: &mut Block, i: usize)
 
 #[inline(always)]
 fn permute_rows(block: &mut Block)
-    ensures { block.new ≡ rows_permuted block.old }
+    ensures { block.new ≡ permuted_rows block.old }
 {
     'rows: for i in 0..8 {
         permute_row(block, i);
@@ -207,7 +207,7 @@ fn permute_rows(block: &mut Block)
 
 #[inline(always)]
 fn permute_columns(block: &mut Block)
-    ensures { block.new ≡ transposed (rows_permuted (transposed block.old)) }
+    ensures { block.new ≡ transposed (permuted_rows (transposed block.old)) }
 {
     'columns: for i in 0..8 {
         permute_column(block, i);

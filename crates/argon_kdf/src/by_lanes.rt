@@ -8,7 +8,7 @@ use crate::digest::{first_digest, write_tag};
 use crate::first_pass::first_pass;
 use crate::lanes::later_passes;
 use crate::layout::Layout;
-use crate::limits::{LEAST_SALT_BYTES, MOST_TEXT_BYTES};
+use crate::limits::{MAX_TEXT_BYTES, MIN_SALT_BYTES};
 use crate::slices::{last_column, reserved_slices};
 use crate::wiping::wipe_slices;
 use crate::{Costs, Texts};
@@ -29,11 +29,11 @@ pub fn argon2id_lanes<R: Threads + Sync>(
     tag: &mut [u8; 32],
 ) -> Result<(), AllocError>
     requires costs { checked_costs costs.now ≡ Ok tt }
-    requires password { length texts.password.now ≤ MOST_TEXT_BYTES }
-    requires salt_least { LEAST_SALT_BYTES ≤ length texts.salt.now }
-    requires salt { length texts.salt.now ≤ MOST_TEXT_BYTES }
-    requires secret { length texts.secret.now ≤ MOST_TEXT_BYTES }
-    requires extra { length texts.extra.now ≤ MOST_TEXT_BYTES }
+    requires password { length texts.password.now ≤ MAX_TEXT_BYTES }
+    requires salt_least { MIN_SALT_BYTES ≤ length texts.salt.now }
+    requires salt { length texts.salt.now ≤ MAX_TEXT_BYTES }
+    requires secret { length texts.secret.now ≤ MAX_TEXT_BYTES }
+    requires extra { length texts.extra.now ≤ MAX_TEXT_BYTES }
     ensures tag { OnOk result (tag.new ≡ argon2id_tag costs.now texts.entry.password.now texts.entry.salt.now
         texts.entry.secret.now texts.entry.extra.now) }
     ensures kept { OnErr result (tag.new ≡ tag.old) }

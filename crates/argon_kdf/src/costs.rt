@@ -2,17 +2,17 @@
 
 ghost use Rattle.std.specs.Prelude.{◌≡◌};
 
-use crate::limits::{LEAST_KIB_A_LANE, MOST_KIB, MOST_LANES, MOST_PASSES};
+use crate::limits::{MAX_KIB, MAX_LANES, MAX_PASSES, MIN_KIB_PER_LANE};
 use thiserror::Error;
 
 /// The costs of Argon2id: how often it goes through its memory, how much that is, and in how many lanes.
 #[derive(Clone, Copy, Debug, PartialEq, Eq)]
 pub struct Costs {
-    /// The number of passes, 1 to 16 (`MOST_PASSES`).
+    /// The number of passes, 1 to 16 (`MAX_PASSES`).
     pub passes: u32,
-    /// KiB of memory, from 8 for each lane (`LEAST_KIB_A_LANE`) to 65,536 (`MOST_KIB`).
+    /// KiB of memory, from 8 for each lane (`MIN_KIB_PER_LANE`) to 65,536 (`MAX_KIB`).
     pub kib: u32,
-    /// The number of lanes, 1 to 8 (`MOST_LANES`).
+    /// The number of lanes, 1 to 8 (`MAX_LANES`).
     pub lanes: u32,
 }
 
@@ -35,13 +35,13 @@ impl Costs {
     pub fn check(&self) -> Result<(), CostFault>
         ensures { result ≡ checked_costs self.now }
     {
-        if !(1..=MOST_PASSES).contains(&self.passes) {
+        if !(1..=MAX_PASSES).contains(&self.passes) {
             return Err(CostFault::Passes);
         }
-        if !(1..=MOST_LANES).contains(&self.lanes) {
+        if !(1..=MAX_LANES).contains(&self.lanes) {
             return Err(CostFault::Lanes);
         }
-        if !(LEAST_KIB_A_LANE * self.lanes..=MOST_KIB).contains(&self.kib) {
+        if !(MIN_KIB_PER_LANE * self.lanes..=MAX_KIB).contains(&self.kib) {
             return Err(CostFault::Kib);
         }
         Ok(())

@@ -12,7 +12,7 @@ ghost use Rattle.argon_kdf.specs.Argon2id.{first_digest};
 
 use crate::block::Block;
 use crate::block_bytes::{from_bytes, to_bytes};
-use crate::limits::{MOST_LANES, MOST_TEXT_BYTES};
+use crate::limits::{MAX_LANES, MAX_TEXT_BYTES};
 use crate::{Costs, Texts};
 use blake2_core::Blake2b;
 
@@ -32,7 +32,7 @@ fn update_number(hasher: &mut Blake2b, number: u32)
 }
 
 fn update_counted(hasher: &mut Blake2b, text: &[u8])
-    requires { length text.now ≤ MOST_TEXT_BYTES }
+    requires { length text.now ≤ MAX_TEXT_BYTES }
     ensures length { output_length hasher.new ≡ output_length hasher.old }
     ensures added { (m : List ℕ) → Holds hasher.old m
         → Holds hasher.new (m ++ little_endian_bytes 4 (length text.now) ++ text.now) }
@@ -52,10 +52,10 @@ fn finish(hasher: Blake2b) -> [u8; 64]
 
 // Returns H_0, the digest of all inputs.
 pub(crate) fn first_digest(costs: &Costs, texts: Texts) -> [u8; 64]
-    requires password { length texts.password.now ≤ MOST_TEXT_BYTES }
-    requires salt { length texts.salt.now ≤ MOST_TEXT_BYTES }
-    requires secret { length texts.secret.now ≤ MOST_TEXT_BYTES }
-    requires extra { length texts.extra.now ≤ MOST_TEXT_BYTES }
+    requires password { length texts.password.now ≤ MAX_TEXT_BYTES }
+    requires salt { length texts.salt.now ≤ MAX_TEXT_BYTES }
+    requires secret { length texts.secret.now ≤ MAX_TEXT_BYTES }
+    requires extra { length texts.extra.now ≤ MAX_TEXT_BYTES }
     ensures { result ≡ first_digest costs.now texts.entry.password.now texts.entry.salt.now
         texts.entry.secret.now texts.entry.extra.now }
 {
@@ -121,7 +121,7 @@ fn stretched(mut value: [u8; 64]) -> [u8; 1024]
 
 // Returns one of the first two blocks of a lane.
 pub(crate) fn first_block(h0: &[u8; 64], lane: usize, column: usize) -> Block
-    requires lane { lane < MOST_LANES }
+    requires lane { lane < MAX_LANES }
     requires column { column < 2 }
     ensures { result ≡ first_block h0.now lane column }
 {

@@ -9,7 +9,7 @@ ghost use Rattle.argon_kdf.specs.Tables.{Table, latest};
 ghost use Rattle.argon_kdf.specs.Filling.{joined_block, new_block, with_block, with_lanes};
 ghost use Rattle.argon_kdf.specs.Filling.{with_passes, with_places, with_slices};
 ghost use Rattle.argon_kdf.specs.Argon2id.{lanes_xored};
-ghost use Rattle.argon_kdf.specs.Memory.{Stands};
+ghost use Rattle.argon_kdf.specs.Memory.{IsFilledTo};
 
 use crate::block::{Block, ZERO_BLOCK, join, xor_into};
 use crate::digest::first_block;
@@ -21,7 +21,7 @@ fn write_joined(block: &mut Block, layout: Layout, memory: &[Block], addresses: 
     requires within { IsWithin (shape layout) at }
     requires begun { at.pass ≡ 0 → 2 ≤ column_of (shape layout) at }
     requires whole { length memory.now ≡ block_count (shape layout) }
-    ensures { (table : Table) → Stands (shape layout) memory.now table at
+    ensures { (table : Table) → IsFilledTo (shape layout) memory.now table at
         → (at.pass ≡ 0 → at.slice < 2 → addresses.now ≡ address_block (shape layout) at (at.index / 128 + 1))
         → block.new ≡ joined_block (shape layout) at (latest (shape layout) table at) }
 {
@@ -43,7 +43,7 @@ fn write_new(
 )
     requires within { IsWithin (shape layout) at }
     requires whole { length memory.now ≡ block_count (shape layout) }
-    ensures { (table : Table) → Stands (shape layout) memory.now table at
+    ensures { (table : Table) → IsFilledTo (shape layout) memory.now table at
         → (at.pass ≡ 0 → at.slice < 2 → addresses.now ≡ address_block (shape layout) at (at.index / 128 + 1))
         → block.new ≡ new_block (shape layout) h0.now at (latest (shape layout) table at) }
 {
@@ -69,9 +69,9 @@ fn fill_place(
 )
     requires within { IsWithin (shape layout) at }
     requires whole { length memory.old ≡ block_count (shape layout) }
-    ensures { (table : Table) → Stands (shape layout) memory.old table at
+    ensures { (table : Table) → IsFilledTo (shape layout) memory.old table at
         → (at.pass ≡ 0 → at.slice < 2 → addresses.now ≡ address_block (shape layout) at (at.index / 128 + 1))
-        → Stands (shape layout) memory.new (with_block (shape layout) h0.now table at)
+        → IsFilledTo (shape layout) memory.new (with_block (shape layout) h0.now table at)
         (place at.pass at.slice at.lane (at.index + 1)) }
 {
     write_new(block, layout, h0, memory, addresses, at);
@@ -89,8 +89,8 @@ fn fill_segment(
     requires slice { slice < 4 }
     requires lane { lane < layout.lanes }
     requires whole { length memory.old ≡ block_count (shape layout) }
-    ensures { (table : Table) → Stands (shape layout) memory.old table (place pass slice lane 0)
-        → Stands (shape layout) memory.new
+    ensures { (table : Table) → IsFilledTo (shape layout) memory.old table (place pass slice lane 0)
+        → IsFilledTo (shape layout) memory.new
         (with_places (shape layout) h0.now table pass slice lane layout.width)
         (place pass slice (lane + 1) 0) }
 {
@@ -111,8 +111,8 @@ fn fill_segment(
 fn fill_slice(layout: Layout, h0: &[u8; 64], memory: &mut [Block], pass: usize, slice: usize)
     requires slice { slice < 4 }
     requires whole { length memory.old ≡ block_count (shape layout) }
-    ensures { (table : Table) → Stands (shape layout) memory.old table (place pass slice 0 0)
-        → Stands (shape layout) memory.new (with_lanes (shape layout) h0.now table pass slice layout.lanes)
+    ensures { (table : Table) → IsFilledTo (shape layout) memory.old table (place pass slice 0 0)
+        → IsFilledTo (shape layout) memory.new (with_lanes (shape layout) h0.now table pass slice layout.lanes)
         (place pass (slice + 1) 0 0) }
 {
     'lanes: for lane in 0..layout.lanes {
@@ -122,8 +122,8 @@ fn fill_slice(layout: Layout, h0: &[u8; 64], memory: &mut [Block], pass: usize, 
 
 fn fill_pass(layout: Layout, h0: &[u8; 64], memory: &mut [Block], pass: usize)
     requires { length memory.old ≡ block_count (shape layout) }
-    ensures { (table : Table) → Stands (shape layout) memory.old table (place pass 0 0 0)
-        → Stands (shape layout) memory.new
+    ensures { (table : Table) → IsFilledTo (shape layout) memory.old table (place pass 0 0 0)
+        → IsFilledTo (shape layout) memory.new
         (with_slices (shape layout) h0.now table pass 4) (place (pass + 1) 0 0 0) }
 {
     'slices: for slice in 0..4 {
@@ -135,7 +135,7 @@ fn fill_pass(layout: Layout, h0: &[u8; 64], memory: &mut [Block], pass: usize)
 pub(crate) fn fill(layout: Layout, h0: &[u8; 64], memory: &mut [Block])
     requires whole { length memory.old ≡ block_count (shape layout) }
     requires zero { (n : ℕ) → n < block_count (shape layout) → slice_index_or memory.old n [] ≡ zero_block }
-    ensures { Stands (shape layout) memory.new
+    ensures { IsFilledTo (shape layout) memory.new
         (with_passes (shape layout) h0.now layout.passes) (place layout.passes 0 0 0) }
 {
     'passes: for pass in 0..layout.passes {
@@ -146,7 +146,7 @@ pub(crate) fn fill(layout: Layout, h0: &[u8; 64], memory: &mut [Block])
 // Returns the xor of the lanes of the last column.
 pub(crate) fn last_column(layout: Layout, memory: &[Block]) -> Block
     requires { length memory.now ≡ block_count (shape layout) }
-    ensures { (table : Table) → Stands (shape layout) memory.now table (place layout.passes 0 0 0)
+    ensures { (table : Table) → IsFilledTo (shape layout) memory.now table (place layout.passes 0 0 0)
         → result ≡ lanes_xored (table (layout.passes - 1)) (columns (shape layout) - 1) layout.lanes }
 {
     let mut sum = ZERO_BLOCK;

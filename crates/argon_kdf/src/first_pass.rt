@@ -11,7 +11,7 @@ ghost use Rattle.argon_kdf.specs.References.{address_block};
 ghost use Rattle.argon_kdf.specs.Tables.{Table, latest};
 ghost use Rattle.argon_kdf.specs.Filling.{new_block, with_lanes, with_passes, with_places};
 ghost use Rattle.argon_kdf.specs.Memory.{Shows};
-ghost use Rattle.argon_kdf.specs.Segments.{Begun, IsReadable, IsRoom};
+ghost use Rattle.argon_kdf.specs.Segments.{BeginsSegment, IsReadable, HasSegmentSpace};
 
 use crate::block::{Block, ZERO_BLOCK};
 use crate::digest::first_block;
@@ -36,7 +36,7 @@ fn write_new(
     requires first { at.pass ≡ 0 }
     requires within { IsWithin (shape layout) at }
     requires readable { IsReadable (shape layout) (slices_of memory.now) segment.now at }
-    ensures { (table : Table) → Begun (shape layout) (slices_of memory.now) segment.now table at
+    ensures { (table : Table) → BeginsSegment (shape layout) (slices_of memory.now) segment.now table at
         → (at.slice < 2 → addresses.now ≡ address_block (shape layout) at (at.index / 128 + 1))
         → block.new ≡ new_block (shape layout) h0.now at (latest (shape layout) table at) }
 {
@@ -64,7 +64,7 @@ fn grow_segment(
     requires room { vec_capacity segment.old ≡ layout.width }
     ensures whole { length segment.new.items ≡ layout.width }
     ensures made { (table : Table) (k : ℕ) → k < layout.width
-        → Begun (shape layout) (slices_of memory.now) [] table (place 0 slice lane 0)
+        → BeginsSegment (shape layout) (slices_of memory.now) [] table (place 0 slice lane 0)
         → slice_index_or segment.new.items k zero_block
         ≡ with_places (shape layout) h0.now table 0 slice lane layout.width
         0 lane (slice * layout.width + k) }
@@ -101,7 +101,7 @@ fn grow_segments<R: Threads + Sync>(
     ensures lanes { length segments.new ≡ layout.lanes }
     ensures parts { All (λ v. length v.items ≡ layout.width) segments.new }
     ensures made { (table : Table) (i : ℕ) (d : _) (k : ℕ) → i < layout.lanes → k < layout.width
-        → Begun (shape layout) (slices_of memory.now) [] table (place 0 slice i 0)
+        → BeginsSegment (shape layout) (slices_of memory.now) [] table (place 0 slice i 0)
         → slice_index_or (slice_index_or segments.new i d).items k zero_block
         ≡ with_places (shape layout) h0.now table 0 slice i layout.width
         0 i (slice * layout.width + k) }
@@ -125,7 +125,7 @@ fn grow_slice<R: Threads + Sync>(
 ) -> Segments
     requires slice { slice < 4 }
     requires memory { HasSlices (shape layout) slice (slices_of memory.now) }
-    requires room { IsRoom (shape layout) segments.items }
+    requires room { HasSegmentSpace (shape layout) segments.items }
     ensures whole { IsSlice (shape layout) (segments_of result.items) }
     ensures made { (table : Table)
         → Shows (shape layout) (block_at (shape layout) (slices_of memory.now)) table (place 0 slice 0 0)
@@ -147,7 +147,7 @@ pub(crate) fn first_pass<R: Threads + Sync>(
     rooms: &mut [Segments],
 ) -> Result<Vec<Segments>, AllocError>
     requires count { length rooms.old ≡ 4 }
-    requires rooms { All (λ s. IsRoom (shape layout) s.items) rooms.old }
+    requires rooms { All (λ s. HasSegmentSpace (shape layout) s.items) rooms.old }
     ensures whole { IfOk result (λ memory. IsWhole (shape layout) (slices_of memory.items)) }
     ensures filled { IfOk result (λ memory.
         Shows (shape layout) (block_at (shape layout) (slices_of memory.items))

@@ -9,7 +9,7 @@ ghost use Rattle.argon_kdf.specs.SeenBlocks.{block_at};
 ghost use Rattle.argon_kdf.specs.Tables.{Table};
 ghost use Rattle.argon_kdf.specs.Filling.{with_lanes, with_passes, with_places, with_slices};
 ghost use Rattle.argon_kdf.specs.Memory.{Shows};
-ghost use Rattle.argon_kdf.specs.Segments.{Begun};
+ghost use Rattle.argon_kdf.specs.Segments.{BeginsSegment};
 
 use crate::block::Block;
 use crate::layout::Layout;
@@ -35,7 +35,7 @@ fn make_in(
     requires segment { length segment.old.items ≡ layout.width }
     ensures whole { length segment.new.items ≡ layout.width }
     ensures made { (h0 : List ℕ) (table : Table) (k : ℕ) → k < layout.width
-        → Begun (shape layout) (slices_of memory.now) segment.old.items table (place pass slice lane 0)
+        → BeginsSegment (shape layout) (slices_of memory.now) segment.old.items table (place pass slice lane 0)
         → slice_index_or segment.new.items k zero_block
         ≡ with_places (shape layout) h0 table pass slice lane layout.width
         pass lane (slice * layout.width + k) }
@@ -60,7 +60,7 @@ fn make_segments<R: Threads + Sync>(
     ensures lanes { length segments.new ≡ layout.lanes }
     ensures parts { All (λ v. length v.items ≡ layout.width) segments.new }
     ensures made { (h0 : List ℕ) (table : Table) (i : ℕ) (d : _) (k : ℕ) → i < layout.lanes → k < layout.width
-        → Begun (shape layout) (slices_of memory.now) (slice_index_or segments.old i d).items table
+        → BeginsSegment (shape layout) (slices_of memory.now) (slice_index_or segments.old i d).items table
         (place pass slice i 0)
         → slice_index_or (slice_index_or segments.new i d).items k zero_block
         ≡ with_places (shape layout) h0 table pass slice i layout.width

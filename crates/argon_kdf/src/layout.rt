@@ -2,7 +2,7 @@
 
 ghost use Rattle.std.specs.Prelude.{◌≡◌, ◌+◌, ◌*◌, ◌<◌, ◌≤◌, Ok};
 ghost use Rattle.argon_kdf.specs.CostLimits.{checked_costs};
-ghost use Rattle.argon_kdf.specs.declared.limits.TheConstants.{MOST_KIB, MOST_LANES, MOST_PASSES};
+ghost use Rattle.argon_kdf.specs.declared.limits.TheConstants.{MAX_KIB, MAX_LANES, MAX_PASSES};
 
 use crate::Costs;
 
@@ -13,11 +13,11 @@ pub(crate) struct Layout {
     pub lanes: usize,
     pub width: usize,
     ghost some_pass: { 1 ≤ passes },
-    ghost few_passes: { passes ≤ MOST_PASSES },
+    ghost few_passes: { passes ≤ MAX_PASSES },
     ghost some_lane: { 1 ≤ lanes },
-    ghost few_lanes: { lanes ≤ MOST_LANES },
+    ghost few_lanes: { lanes ≤ MAX_LANES },
     ghost wide: { 2 ≤ width },
-    ghost narrow: { lanes * (4 * width) ≤ MOST_KIB },
+    ghost narrow: { lanes * (4 * width) ≤ MAX_KIB },
 }
 
 // The place of a block in the order in which blocks are made: the pass, the slice of the pass, the

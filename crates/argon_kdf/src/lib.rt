@@ -16,7 +16,7 @@ use fill::{fill, last_column};
 pub use law::table_meets_the_recursion;
 use layout::Layout;
 pub use limits::{
-    LEAST_KIB_A_LANE, LEAST_SALT_BYTES, MOST_KIB, MOST_LANES, MOST_PASSES, MOST_TEXT_BYTES,
+    MAX_KIB, MAX_LANES, MAX_PASSES, MAX_TEXT_BYTES, MIN_KIB_PER_LANE, MIN_SALT_BYTES,
 };
 use std::alloc::{AllocError, Global};
 pub use stretch::{LaneStretch, PlainStretch, Stretch};
@@ -43,7 +43,7 @@ mod wiping;
 
 // Returns memory of `count` blocks of zeros.
 fn zero_blocks(alloc: Global, count: usize) -> Result<Vec<Block>, AllocError>
-    requires { count ≤ MOST_KIB }
+    requires { count ≤ MAX_KIB }
     ensures whole { IfOk result (λ memory. length memory.items ≡ count) }
     ensures zero { IfOk result (λ memory. (n : ℕ) → n < count
         → slice_index_or memory.items n [] ≡ zero_block) }
@@ -64,11 +64,11 @@ pub fn argon2id(
     tag: &mut [u8; 32],
 ) -> Result<(), AllocError>
     requires costs { checked_costs costs.now ≡ Ok tt }
-    requires password { length texts.password.now ≤ MOST_TEXT_BYTES }
-    requires salt_least { LEAST_SALT_BYTES ≤ length texts.salt.now }
-    requires salt { length texts.salt.now ≤ MOST_TEXT_BYTES }
-    requires secret { length texts.secret.now ≤ MOST_TEXT_BYTES }
-    requires extra { length texts.extra.now ≤ MOST_TEXT_BYTES }
+    requires password { length texts.password.now ≤ MAX_TEXT_BYTES }
+    requires salt_least { MIN_SALT_BYTES ≤ length texts.salt.now }
+    requires salt { length texts.salt.now ≤ MAX_TEXT_BYTES }
+    requires secret { length texts.secret.now ≤ MAX_TEXT_BYTES }
+    requires extra { length texts.extra.now ≤ MAX_TEXT_BYTES }
     ensures tag { OnOk result (tag.new ≡ argon2id_tag costs.now texts.entry.password.now texts.entry.salt.now
         texts.entry.secret.now texts.entry.extra.now) }
     ensures kept { OnErr result (tag.new ≡ tag.old) }

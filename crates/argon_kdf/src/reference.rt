@@ -7,7 +7,7 @@ ghost use Rattle.argon_kdf.specs.References.{oldest, reference_column, reference
 
 use crate::block::{Block, ZERO_BLOCK, join};
 use crate::layout::{Layout, Place};
-use crate::limits::MOST_KIB;
+use crate::limits::MAX_KIB;
 
 // The type of Argon2id, and of no other Argon2.
 const TYPE: u64 = 2;
@@ -112,7 +112,7 @@ fn choices(layout: Layout, at: Place, lane: usize) -> usize
 
 fn choice(count: usize, j1: u64) -> usize
     requires some { 1 ≤ count }
-    requires most { count ≤ MOST_KIB }
+    requires most { count ≤ MAX_KIB }
     requires low { j1 < 2 ^ 32 }
     ensures value { result ≡ choice count j1 }
     ensures within { result < count }

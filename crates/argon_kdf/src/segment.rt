@@ -10,7 +10,7 @@ ghost use Rattle.argon_kdf.specs.SeenBlocks.{seen_block};
 ghost use Rattle.argon_kdf.specs.References.{address_block};
 ghost use Rattle.argon_kdf.specs.Tables.{Table, latest};
 ghost use Rattle.argon_kdf.specs.Filling.{joined_block, with_places};
-ghost use Rattle.argon_kdf.specs.Segments.{Begun, IsReadable};
+ghost use Rattle.argon_kdf.specs.Segments.{BeginsSegment, IsReadable};
 
 use crate::block::{Block, ZERO_BLOCK, join, xor_into};
 use crate::layout::{Layout, Place};
@@ -53,7 +53,7 @@ pub(crate) fn write_joined(
     requires within { IsWithin (shape layout) at }
     requires begun { at.pass ≡ 0 → 2 ≤ column_of (shape layout) at }
     requires readable { IsReadable (shape layout) (slices_of memory.now) segment.now at }
-    ensures { (table : Table) → Begun (shape layout) (slices_of memory.now) segment.now table at
+    ensures { (table : Table) → BeginsSegment (shape layout) (slices_of memory.now) segment.now table at
         → (at.pass ≡ 0 → at.slice < 2 → addresses.now ≡ address_block (shape layout) at (at.index / 128 + 1))
         → block.new ≡ joined_block (shape layout) at (latest (shape layout) table at) }
 {
@@ -91,7 +91,7 @@ pub(crate) fn make_segment(
     requires segment { length segment.old ≡ layout.width }
     ensures whole { length segment.new ≡ layout.width }
     ensures made { (h0 : List ℕ) (table : Table) (k : ℕ) → k < layout.width
-        → Begun (shape layout) (slices_of memory.now) segment.old table (place pass slice lane 0)
+        → BeginsSegment (shape layout) (slices_of memory.now) segment.old table (place pass slice lane 0)
         → slice_index_or segment.new k zero_block
         ≡ with_places (shape layout) h0 table pass slice lane layout.width
         pass lane (slice * layout.width + k) }

@@ -5,7 +5,7 @@ ghost use Rattle.std.specs.Prelude.{◌≡◌, ◌-◌, ◌/◌, ◌<◌, [], Al
 ghost use Rattle.argon_kdf.specs.Shapes.{columns, place, shape};
 ghost use Rattle.argon_kdf.specs.Slices.{HasSlice, IsWhole, slices_of};
 ghost use Rattle.argon_kdf.specs.SeenBlocks.{block_at};
-ghost use Rattle.argon_kdf.specs.Segments.{IsRoom};
+ghost use Rattle.argon_kdf.specs.Segments.{HasSegmentSpace};
 ghost use Rattle.argon_kdf.specs.Tables.{Table};
 ghost use Rattle.argon_kdf.specs.Memory.{Shows};
 ghost use Rattle.argon_kdf.specs.Argon2id.{lanes_xored};
@@ -36,7 +36,7 @@ fn reserved_segments(alloc: Global, layout: Layout) -> Result<Segments, AllocErr
 // Reserves capacity for all slices.
 pub(crate) fn reserved_slices(alloc: Global, layout: Layout) -> Result<Vec<Segments>, AllocError>
     ensures count { IfOk result (λ rooms. length rooms.items ≡ 4) }
-    ensures rooms { IfOk result (λ rooms. All (λ s. IsRoom (shape layout) s.items) rooms.items) }
+    ensures rooms { IfOk result (λ rooms. All (λ s. HasSegmentSpace (shape layout) s.items) rooms.items) }
 {
     let mut rooms = Vec::new(alloc);
     'slices: for _ in 0..SLICES {

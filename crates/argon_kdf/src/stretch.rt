@@ -4,7 +4,7 @@ ghost use Rattle.std.specs.Prelude.{◌≡◌, ◌≤◌, [], length, OnOk, OnEr
 ghost use Rattle.argon_kdf.specs.CostLimits.{checked_costs};
 ghost use Rattle.argon_kdf.specs.Argon2id.{argon2id_tag};
 
-use crate::limits::{LEAST_SALT_BYTES, MOST_TEXT_BYTES};
+use crate::limits::{MAX_TEXT_BYTES, MIN_SALT_BYTES};
 use crate::{Costs, Texts, argon2id, argon2id_lanes};
 use std::alloc::{AllocError, Global};
 use std::thread::Threads;
@@ -29,9 +29,9 @@ pub trait Stretch {
     ) -> Result<(), AllocError>
         requires ready { ready self.now }
         requires costs { checked_costs costs.now ≡ Ok tt }
-        requires password { length password.now ≤ MOST_TEXT_BYTES }
-        requires salt_least { LEAST_SALT_BYTES ≤ length salt.now }
-        requires salt { length salt.now ≤ MOST_TEXT_BYTES }
+        requires password { length password.now ≤ MAX_TEXT_BYTES }
+        requires salt_least { MIN_SALT_BYTES ≤ length salt.now }
+        requires salt { length salt.now ≤ MAX_TEXT_BYTES }
         ensures tag { OnOk result (tag.new ≡ argon2id_tag costs.now password.now salt.now [] []) }
         ensures kept { OnErr result (tag.new ≡ tag.old) };
 }
@@ -53,7 +53,7 @@ impl Stretch for PlainStretch {
         salt: &[u8],
         tag: &mut [u8; 32],
     ) -> Result<(), AllocError> {
-        argon2id(alloc, costs, Texts::unkeyed(password, salt), tag)
+        argon2id(alloc, costs, Texts::without_secret(password, salt), tag)
     }
 }
 
@@ -76,7 +76,7 @@ impl<'a, R: Threads + Sync> Stretch for LaneStretch<'a, R> {
         salt: &[u8],
         tag: &mut [u8; 32],
     ) -> Result<(), AllocError> {
-        let texts = Texts::unkeyed(password, salt);
+        let texts = Texts::without_secret(password, salt);
         argon2id_lanes(self.threads, alloc, costs, texts, tag)
     }
 }

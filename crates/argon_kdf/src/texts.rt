@@ -15,7 +15,7 @@ pub struct Texts<'a> {
 
 impl<'a> Texts<'a> {
     /// Returns a password and a salt, with no secret and no further bytes.
-    pub fn unkeyed(password: &'a [u8], salt: &'a [u8]) -> Texts<'a>
+    pub fn without_secret(password: &'a [u8], salt: &'a [u8]) -> Texts<'a>
         ensures password { result.password.now ≡ password.now }
         ensures salt { result.salt.now ≡ salt.now }
         ensures secret { result.secret.now ≡ [] }

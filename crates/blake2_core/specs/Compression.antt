@@ -19,12 +19,12 @@ work_vector state count last =
     ∷ slice_index initial_vector 7 ∷ [])
 
 -- the state with both halves of the work vector xored into it (3.2)
-abbrev pub folded : List ℕ → List ℕ → List ℕ
-folded state v =
+abbrev pub fold_halves : List ℕ → List ℕ → List ℕ
+fold_halves state v =
     map (λ i. bit_xor (bit_xor (slice_index state i) (slice_index v i)) (slice_index v (i + 8)))
     (range_with_len 0 8)
 
 -- F: the state after a block of 128 bytes (3.2)
 unfoldable pub compressed : List ℕ → List ℕ → ℕ → Bool → List ℕ
 compressed state block count last =
-    folded state (rounds (block_words block) (work_vector state count last) 12)
+    fold_halves state (rounds (block_words block) (work_vector state count last) 12)

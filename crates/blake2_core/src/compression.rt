@@ -5,7 +5,7 @@ ghost use Rattle.std.specs.Prelude.{length, slice_index, if◌then◌else◌};
 ghost use Rattle.std.specs.Int.{w64, bit_not};
 ghost use Rattle.blake2_core.specs.Words.{block_words};
 ghost use Rattle.blake2_core.specs.Constants.{initial_vector, word_number};
-ghost use Rattle.blake2_core.specs.Compression.{compressed, folded, work_vector};
+ghost use Rattle.blake2_core.specs.Compression.{compressed, fold_halves, work_vector};
 ghost use Rattle.blake2_core.specs.Mixing.{mixed, mixed_round};
 
 use byte_words::read_word;
@@ -158,7 +158,7 @@ fn start(state: &[u64; 8], count: u128, last: bool) -> [u64; 16]
 }
 
 fn fold(state: &[u64; 8], v: &[u64; 16]) -> [u64; 8]
-    ensures { result ≡ folded state.now v.now }
+    ensures { result ≡ fold_halves state.now v.now }
 {
     [
         state[0] ^ v[0] ^ v[8],

@@ -4,19 +4,19 @@ use Rattle.std.proofs.lemmas.Bool.{cases_eq}
 use Rattle.std.proofs.lemmas.List.Elements.{filter-append}
 use Rattle.call_history.specs.declared.entry.Entry.{Entry}
 use Rattle.call_history.specs.Prefix.{IsPrefix}
-use Rattle.call_history.specs.Entries.{History, PlacedList, numbered, by, entries_by}
+use Rattle.call_history.specs.Entries.{History, PlacedList, entries_with_places, by, entries_by}
 
 module _ {C R : Type 0} where
-  pub numbered-append : (k : ℕ) (h t : History C R) → numbered k (h ++ t) ≡ numbered k h ++ numbered (k + length h) t
-  numbered-append k [] t = ap (λ n. numbered n t) (omega arith)
-  numbered-append k (e ∷ h) t = ap (λ (l : PlacedList C R). (k, e) ∷ l) (numbered-append (k + 1) h t ∙ ap (λ n. numbered (k + 1) h ++ numbered n t) (omega arith))
+  pub numbered-append : (k : ℕ) (h t : History C R) → entries_with_places k (h ++ t) ≡ entries_with_places k h ++ entries_with_places (k + length h) t
+  numbered-append k [] t = ap (λ n. entries_with_places n t) (omega arith)
+  numbered-append k (e ∷ h) t = ap (λ (l : PlacedList C R). (k, e) ∷ l) (numbered-append (k + 1) h t ∙ ap (λ n. entries_with_places (k + 1) h ++ entries_with_places n t) (omega arith))
 
-  pub length-numbered : (k : ℕ) (h : History C R) → length (numbered k h) ≡ length h
+  pub length-numbered : (k : ℕ) (h : History C R) → length (entries_with_places k h) ≡ length h
   length-numbered k [] = refl
   length-numbered k (e ∷ h) = ap suc (length-numbered (k + 1) h)
 
   -- the entries without their places
-  pub map-numbered : (k : ℕ) (h : History C R) → map (λ x. x.1) (numbered k h) ≡ h
+  pub map-numbered : (k : ℕ) (h : History C R) → map (λ x. x.1) (entries_with_places k h) ≡ h
   map-numbered k [] = refl
   map-numbered k (e ∷ h) = ap (λ (l : History C R). e ∷ l) (map-numbered (k + 1) h)
 
@@ -46,18 +46,18 @@ module _ {C R : Type 0} where
   -- a history that goes on by one entry
   pub entries_by-more_own : (c : ℕ) (h : History C R) (e : Entry C R) → e.who ≡ c → entries_by c (h ++ e ∷ []) ≡ entries_by c h ++ (length h, e) ∷ []
   entries_by-more_own c h e own =
-      ap (by c) (numbered-append 0 h (e ∷ [])) ∙ (by-append c (numbered 0 h) (numbered (0 + length h) (e ∷ []))
+      ap (by c) (numbered-append 0 h (e ∷ [])) ∙ (by-append c (entries_with_places 0 h) (entries_with_places (0 + length h) (e ∷ []))
       ∙ ap (λ (l : PlacedList C R). entries_by c h ++ l) (by-cons_own c (0 + length h, e) [] own ∙ ap (λ (n : ℕ). (n, e) ∷ []) (zero-add (length h))))
 
   pub entries_by-more_other : (c : ℕ) (h : History C R) (e : Entry C R) → e.who ≢ c → entries_by c (h ++ e ∷ []) ≡ entries_by c h
   entries_by-more_other c h e other =
-      ap (by c) (numbered-append 0 h (e ∷ [])) ∙ (by-append c (numbered 0 h) (numbered (0 + length h) (e ∷ []))
+      ap (by c) (numbered-append 0 h (e ∷ [])) ∙ (by-append c (entries_with_places 0 h) (entries_with_places (0 + length h) (e ∷ []))
       ∙ (ap (λ (l : PlacedList C R). entries_by c h ++ l) (by-cons_other c (0 + length h, e) [] other) ∙ append-nil (entries_by c h)))
 
   -- a caller's entries in a beginning begin those in the whole
   pub IsPrefix-entries_by : (c : ℕ) (g h : History C R) → IsPrefix g h → IsPrefix (entries_by c g) (entries_by c h)
   IsPrefix-entries_by c g h p =
-      (by c (numbered (0 + length g) p.0), sym (ap (by c) (numbered-append 0 g p.0) ∙ by-append c (numbered 0 g) (numbered (0 + length g) p.0)) ∙ ap (entries_by c) p.1)
+      (by c (entries_with_places (0 + length g) p.0), sym (ap (by c) (numbered-append 0 g p.0) ∙ by-append c (entries_with_places 0 g) (entries_with_places (0 + length g) p.0)) ∙ ap (entries_by c) p.1)
 
   -- entries of which each caller made none
   pub by_nobody : (xs : PlacedList C R) → ((c : ℕ) → by c xs ≡ []) → xs ≡ []

@@ -8,7 +8,7 @@ use Rattle.std.specs.Cmp.{nat_cmp_is}
 use Rattle.std.specs.declared.cmp.Ordering.{Ordering}
 use Rattle.std.specs.declared.cmp.Ordering.TheVariants.{Less, Equal, Greater}
 use Rattle.call_history.specs.declared.entry.Entry.{Entry}
-use Rattle.call_history.specs.Entries.{PlacedList, inserted, in_order}
+use Rattle.call_history.specs.Entries.{PlacedList, insert_in_order, in_order}
 use Rattle.call_history.proofs.Ordering.{AllFrom, AllFrom-inserted, AllFrom_weaker}
 
 module _ {C R : Type 0} where
@@ -31,11 +31,11 @@ module _ {C R : Type 0} where
       (λ other. ap (λ (l : PlacedList C R). cond (eqb y.0 k) (y ∷ l) l) (at-other k x xs other) ∙ sym (at-other k x (y ∷ xs) other))
       (cases_eq x.0 k)
 
-  at-inserted : (k : ℕ) (x : ℕ × Entry C R) (ys : PlacedList C R) → at k (inserted x ys) ≡ at k (x ∷ ys)
+  at-inserted : (k : ℕ) (x : ℕ × Entry C R) (ys : PlacedList C R) → at k (insert_in_order x ys) ≡ at k (x ∷ ys)
   at-inserted k x [] = refl
   at-inserted k x (y ∷ ys) = ⊎_elim
-      (λ (low : leb x.0 y.0 ≡ true). ap (λ (b : Bool). at k (cond b (x ∷ y ∷ ys) (y ∷ inserted x ys))) low)
-      (λ (high : leb x.0 y.0 ≡ false). ap (λ (b : Bool). at k (cond b (x ∷ y ∷ ys) (y ∷ inserted x ys))) high
+      (λ (low : leb x.0 y.0 ≡ true). ap (λ (b : Bool). at k (cond b (x ∷ y ∷ ys) (y ∷ insert_in_order x ys))) low)
+      (λ (high : leb x.0 y.0 ≡ false). ap (λ (b : Bool). at k (cond b (x ∷ y ∷ ys) (y ∷ insert_in_order x ys))) high
       ∙ ap (λ (l : PlacedList C R). cond (eqb y.0 k) (y ∷ l) l) (at-inserted k x ys)
       ∙ at-swapped k x y ys (leb-false x.0 y.0 high))
       (cases_Bool (leb x.0 y.0))
@@ -49,9 +49,9 @@ module _ {C R : Type 0} where
   Rises [] = Unit {0}
   Rises (x ∷ xs) = AllFrom x.0 xs × Rises xs
 
-  Rises-inserted : (x : ℕ × Entry C R) (ys : PlacedList C R) → Rises ys → Rises (inserted x ys)
+  Rises-inserted : (x : ℕ × Entry C R) (ys : PlacedList C R) → Rises ys → Rises (insert_in_order x ys)
   Rises-inserted x [] up = (tt, tt)
-  Rises-inserted x (y ∷ ys) up = cond_both (leb x.0 y.0) (x ∷ y ∷ ys) (y ∷ inserted x ys) Rises
+  Rises-inserted x (y ∷ ys) up = cond_both (leb x.0 y.0) (x ∷ y ∷ ys) (y ∷ insert_in_order x ys) Rises
       (λ low. let below = leb-true x.0 y.0 low in ((below, AllFrom_weaker y.0 x.0 ys below up.0), up))
       (λ high. let above = leb-false x.0 y.0 high in (AllFrom-inserted y.0 x ys (omega (arith, above)) up.0, Rises-inserted x ys up.1))
 

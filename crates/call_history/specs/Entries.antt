@@ -15,9 +15,9 @@ module _ {C R : Type 0} where
   entry who call reply = record { who = who; call = call; reply = reply }
 
   -- each entry with its place, if the first has the place k
-  abbrev pub numbered : ℕ → History C R → PlacedList C R
-  numbered k [] = []
-  numbered k (e ∷ es) = (k, e) ∷ numbered (k + 1) es
+  abbrev pub entries_with_places : ℕ → History C R → PlacedList C R
+  entries_with_places k [] = []
+  entries_with_places k (e ∷ es) = (k, e) ∷ entries_with_places (k + 1) es
 
   -- those that this caller made
   abbrev pub by : ℕ → PlacedList C R → PlacedList C R
@@ -25,22 +25,22 @@ module _ {C R : Type 0} where
 
   -- a caller's entries in a history, with their places
   abbrev pub entries_by : ℕ → History C R → PlacedList C R
-  entries_by caller history = by caller (numbered 0 history)
+  entries_by caller history = by caller (entries_with_places 0 history)
 
   -- x before the first of a list in order that has no lower place
-  abbrev pub inserted : ℕ × Entry C R → PlacedList C R → PlacedList C R
-  inserted x [] = x ∷ []
-  inserted x (y ∷ ys) = if nat_le x.0 y.0 then x ∷ y ∷ ys else y ∷ inserted x ys
+  abbrev pub insert_in_order : ℕ × Entry C R → PlacedList C R → PlacedList C R
+  insert_in_order x [] = x ∷ []
+  insert_in_order x (y ∷ ys) = if nat_le x.0 y.0 then x ∷ y ∷ ys else y ∷ insert_in_order x ys
 
   -- the same entries in order of place, those of one place in the order that they had
   abbrev pub in_order : PlacedList C R → PlacedList C R
   in_order [] = []
-  in_order (x ∷ xs) = inserted x (in_order xs)
+  in_order (x ∷ xs) = insert_in_order x (in_order xs)
 
   -- the history that the entries make in order of place
-  abbrev pub merged : PlacedList C R → History C R
-  merged placed = map (λ x. x.1) (in_order placed)
+  abbrev pub history_in_order : PlacedList C R → History C R
+  history_in_order placed = map (λ x. x.1) (in_order placed)
 
   -- the places of these entries are 0 to n - 1, each once
   abbrev pub IsComplete : PlacedList C R → Type 0
-  IsComplete placed = in_order placed ≡ numbered 0 (merged placed)
+  IsComplete placed = in_order placed ≡ entries_with_places 0 (history_in_order placed)

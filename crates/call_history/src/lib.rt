@@ -11,4 +11,4 @@ pub use laws::callers_determine_history;
 pub use order::sort_by_place;
 
 /// The maximal number of places of a history, 2^40.
-pub const MOST_PLACES: u64 = 1_099_511_627_776;
+pub const MAX_PLACES: u64 = 1_099_511_627_776;

@@ -2,7 +2,7 @@
 
 ghost use Rattle.std.specs.Prelude.{◌≡◌, ℕ, List, Err, OnOk, IsErrOf};
 ghost use Rattle.fsc_outside.specs.Input.{EndsReading};
-ghost use Rattle.fsc_outside.specs.WholeTexts.{GaveWhole, IsWithin};
+ghost use Rattle.fsc_outside.specs.WholeTexts.{ReadToEnd, IsWithin};
 ghost use Rattle.fsc_outside.specs.Whole.{GotWhole, GotPart};
 ghost use Rattle.callers.specs.declared.copying.TheConstants.{PAGE};
 
@@ -32,14 +32,14 @@ pub fn copy<S: Source, K: Sink>(
     sink: &mut K,
 ) -> Result<(), CopyFault>
     ensures whole { OnOk result ((text : List ℕ) × IsWithin PAGE text
-        × GaveWhole (S.state source.old) (S.state source.new) text
+        × ReadToEnd (S.state source.old) (S.state source.new) text
         × GotWhole (K.state sink.old) (K.state sink.new) text) }
     ensures unread { (fault : InputFault) → IsErrOf result (CopyFault.Read fault) → sink.new ≡ sink.old }
     ensures read { (fault : InputFault) → IsErrOf result (CopyFault.Read fault)
-        → EndsReading PAGE (λ calls. S.came source.old calls source.new) (S.state source.old)
+        → EndsReading PAGE (λ calls. S.after_calls source.old calls source.new) (S.state source.old)
         (S.state source.new) (Err fault) }
     ensures written { IsErrOf result CopyFault.Write → (text : List ℕ) × IsWithin PAGE text
-        × GaveWhole (S.state source.old) (S.state source.new) text
+        × ReadToEnd (S.state source.old) (S.state source.new) text
         × GotPart (K.state sink.old) (K.state sink.new) text }
     ensures quiet { OnOk result ((K.state sink.new).faults ≡ (K.state sink.old).faults) }
 {

@@ -6,9 +6,9 @@ ghost use Rattle.fsc_keys.specs.Keys.{key_id_of};
 ghost use Rattle.user_claims.specs.Claims.{no_claims, with_claim, without_claim};
 ghost use Rattle.mount_model.specs.declared.call.Op.TheVariants.{KeyStatus};
 ghost use Rattle.mount_model.specs.declared.reply.Reply.TheVariants.{Done, Opened};
-ghost use Rattle.mount_model.specs.ClaimHistory.{claims_left};
-ghost use Rattle.mount_model.specs.ClaimReplies.{TellsBy};
-ghost use Rattle.mount_shared.specs.TellsOfKeys.{AbsentIsGone};
+ghost use Rattle.mount_model.specs.ClaimHistory.{claims_after_entry};
+ghost use Rattle.mount_model.specs.ClaimReplies.{ReportsClaims};
+ghost use Rattle.mount_shared.specs.KeyReports.{AbsentHoldsNothing};
 
 use mount_model::{Bytes, Call, KeyId, Op, Part, Path, Reply};
 use mount_shared::Mount;
@@ -29,8 +29,8 @@ pub struct Locked {
 pub fn write_and_lock(alloc: Global, raw: &[u8], nonces: &[[u8; 16]; 3]) -> Option<Locked>
     ensures id { IfSome result (λ l. l.id ≡ key_id_of raw.now) }
     ensures claims { IfSome result (λ l. l.mount.state.ring.claims ≡ no_claims) }
-    ensures told { IfSome result (λ l. TellsBy no_claims 1000 (KeyStatus l.id) l.told) }
-    ensures gone { IfSome result (λ l. AbsentIsGone l.mount.state (KeyStatus l.id) l.told) }
+    ensures told { IfSome result (λ l. ReportsClaims no_claims 1000 (KeyStatus l.id) l.told) }
+    ensures gone { IfSome result (λ l. AbsentHoldsNothing l.mount.state (KeyStatus l.id) l.told) }
 {
     let mut mount = Mount::new(alloc).ok()?;
     let (id, told) = write_in(alloc, &mut mount, raw, nonces)?;
@@ -48,8 +48,8 @@ fn write_in(
     ensures id { IfSome result (λ r. r.0 ≡ key_id_of raw.now) }
     ensures claims { IfSome result (λ r. mount.new.state.ring.claims
         ≡ without_claim (with_claim mount.old.state.ring.claims r.0 1000) r.0 1000) }
-    ensures told { IfSome result (λ r. TellsBy mount.new.state.ring.claims 1000 (KeyStatus r.0) r.1) }
-    ensures absent { IfSome result (λ r. AbsentIsGone mount.new.state (KeyStatus r.0) r.1) }
+    ensures told { IfSome result (λ r. ReportsClaims mount.new.state.ring.claims 1000 (KeyStatus r.0) r.1) }
+    ensures absent { IfSome result (λ r. AbsentHoldsNothing mount.new.state (KeyStatus r.0) r.1) }
 {
     let id = fill(alloc, mount, raw, nonces)?;
     let reply = lock(mount, id)?;
@@ -73,8 +73,8 @@ fn fill(alloc: Global, mount: &mut Mount, raw: &[u8], nonces: &[[u8; 16]; 3]) ->
 fn lock(mount: &mut Mount, id: KeyId) -> Option<Reply>
     ensures claims { IfSome result (λ _. mount.new.state.ring.claims
         ≡ without_claim mount.old.state.ring.claims id 1000) }
-    ensures told { IfSome result (λ reply. TellsBy mount.new.state.ring.claims 1000 (KeyStatus id) reply) }
-    ensures absent { IfSome result (λ reply. AbsentIsGone mount.new.state (KeyStatus id) reply) }
+    ensures told { IfSome result (λ reply. ReportsClaims mount.new.state.ring.claims 1000 (KeyStatus id) reply) }
+    ensures absent { IfSome result (λ reply. AbsentHoldsNothing mount.new.state (KeyStatus id) reply) }
 {
     let Reply::Removed { .. } = ask(mount, Op::RemoveKey { id })? else {
         return None;
@@ -146,10 +146,10 @@ fn policy_of(id: KeyId) -> Policy {
 
 // The mount's reply to user 1000, or `None` if the call may not be asked.
 fn ask(mount: &mut Mount, op: Op) -> Option<Reply>
-    ensures claims { IfSome result (λ reply. mount.new.state.ring.claims ≡ claims_left
+    ensures claims { IfSome result (λ reply. mount.new.state.ring.claims ≡ claims_after_entry
         mount.old.state.ring.claims (entry 0 (record { uid = 1000; op = op }) reply)) }
-    ensures told { IfSome result (λ reply. TellsBy mount.old.state.ring.claims 1000 op reply) }
-    ensures absent { IfSome result (λ reply. AbsentIsGone mount.new.state op reply) }
+    ensures told { IfSome result (λ reply. ReportsClaims mount.old.state.ring.claims 1000 op reply) }
+    ensures absent { IfSome result (λ reply. AbsentHoldsNothing mount.new.state op reply) }
 {
     let call = Call { uid: 1000, op };
     if !call.fits() {

@@ -2,7 +2,7 @@
 
 ghost use Rattle.std.specs.Prelude.{◌≡◌, ◌+◌, ◌<◌, ◌≤◌, ◌↔◌, ◌⊎◌, length, Contains};
 ghost use Rattle.std.specs.Prelude.{IsOk, IfOk, IsErrOf};
-ghost use Rattle.name_crypt.specs.declared.limits.TheConstants.{MOST_NAME_BYTES};
+ghost use Rattle.name_crypt.specs.declared.limits.TheConstants.{MAX_NAME_BYTES};
 ghost use Rattle.name_crypt.specs.Plain.{IsPlain};
 ghost use Rattle.name_crypt.specs.StoredName.{stored_name};
 ghost use Rattle.name_crypt.specs.NoKeyText.{nokey_text_of};
@@ -13,7 +13,7 @@ use std::sync::ledger::Ledger;
 
 /// Returns the text by which a directory shows the name if its key is absent. Returns the error of
 /// `Plain::read` exactly when that has one.
-pub fn shown<L: Ledger>(
+pub fn visible_name_of<L: Ledger>(
     key: &[u8; 32],
     pad: Pad,
     name: &[u8],
@@ -22,9 +22,9 @@ pub fn shown<L: Ledger>(
     ensures value { IfOk result (λ text. text ≡ nokey_text_of (stored_name key.now 0 pad name.now)) }
     ensures plain { IsOk result ↔ IsPlain name.now }
     ensures length { IsErrOf result PlainFault.Length
-        ↔ ((length name.now ≡ 0) ⊎ (MOST_NAME_BYTES < length name.now)) }
+        ↔ ((length name.now ≡ 0) ⊎ (MAX_NAME_BYTES < length name.now)) }
     ensures nul { IsErrOf result PlainFault.Nul ↔ ((1 ≤ length name.now)
-        × (length name.now ≤ MOST_NAME_BYTES) × Contains name.now 0) }
+        × (length name.now ≤ MAX_NAME_BYTES) × Contains name.now 0) }
     ensures ticks { steps.new ≤ steps.old + 1 }
 {
     let name = Plain::read(name)?;

@@ -7,20 +7,23 @@ ghost use Rattle.turn_lock.specs.Passes.{PassView, first_pass, past_of, IsMadeAt
 
 use std::alloc::{AllocFailed, Global};
 use std::sync::Wait;
-use turn_lock::{Machine, Pass, Shared, Worn};
+use turn_lock::{Machine, Pass, PassExhausted, Shared};
 
 /// Returns the machine shared by turns, and a pass for one caller with two calls. The only error is out
 /// of memory; it returns the machine.
-pub fn begun<M: Machine>(alloc: Global, machine: M) -> Result<(Shared<M>, Pass<M>), AllocFailed<M>>
-    requires { M.leads [] machine }
+pub fn new_shared_machine<M: Machine>(
+    alloc: Global,
+    machine: M,
+) -> Result<(Shared<M>, Pass<M>), AllocFailed<M>>
+    requires { M.reaches [] machine }
     ensures shared { IfOk result (λ r. (r.0.numbers ≡ 1) × (r.0.allowance ≡ 2)) }
     ensures pass { IfOk result (λ r. r.1 ≡ first_pass r.0.table 1 2) }
-    ensures given_back { IfErr result (λ failed. failed.value ≡ machine) }
+    ensures returned_turn { IfErr result (λ failed. failed.value ≡ machine) }
 {
     Shared::start(alloc, machine, 1, 2)
 }
 
-/// Makes two calls, the second at a later place, and returns both replies. Returns `Worn` exactly when
+/// Makes two calls, the second at a later place, and returns both replies. Returns `PassExhausted` exactly when
 /// the pass has fewer calls left: if it has one, the first call has used it up.
 pub fn ask_twice<M: Machine, W: Wait>(
     rt: &W,
@@ -28,7 +31,7 @@ pub fn ask_twice<M: Machine, W: Wait>(
     pass: &mut Pass<M>,
     first: &M::Call,
     second: &M::Call,
-) -> Result<(M::Reply, M::Reply), Worn>
+) -> Result<(M::Reply, M::Reply), PassExhausted>
 where
     M::Reply: Drop,
     requires belongs { pass.old.table ≡ shared.now.table }

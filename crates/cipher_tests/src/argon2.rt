@@ -45,7 +45,7 @@ fn lanes_at_once_end_with_the_tag(rt: HostRuntime) {
             };
             let mut one = [0; 32];
             let mut other = [1; 32];
-            let texts = Texts::unkeyed(b"password", b"somesalt");
+            let texts = Texts::without_secret(b"password", b"somesalt");
             argon2id(rt.alloc(), &costs, texts, &mut one).expect(&rt, "an answer");
             argon2id_lanes(&rt, rt.alloc(), &costs, texts, &mut other).expect(&rt, "an answer");
             assert!(rt; one == other, "{lanes} lanes, {passes} passes");
@@ -69,7 +69,7 @@ const LONG_SEGMENTS_TAG: [u8; 32] = [
 #[test]
 fn segments_of_more_than_128_columns(rt: HostRuntime) {
     let mut tag = [0; 32];
-    let texts = Texts::unkeyed(b"password", b"somesaltsomesalt");
+    let texts = Texts::without_secret(b"password", b"somesaltsomesalt");
     argon2id(rt.alloc(), &LONG_SEGMENTS, texts, &mut tag).expect(&rt, "an answer");
     same_bytes(&rt, &tag, &LONG_SEGMENTS_TAG);
 }

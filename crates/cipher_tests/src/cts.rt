@@ -19,7 +19,7 @@ fn counted_text() -> [u8; 255] {
 }
 
 // Whether the text's beginning is encrypted to these bytes, 16 to 255.
-fn is_enciphered_to(want: &[u8]) -> bool {
+fn is_encrypted_to(want: &[u8]) -> bool {
     if want.len() < 16 || want.len() > 255 {
         return false;
     }
@@ -70,7 +70,7 @@ static CIPHERTEXTS: [&[u8]; 8] = [
 #[test]
 fn ciphertexts_are_those_of_another_cbc(rt: HostRuntime) {
     for want in &CIPHERTEXTS {
-        assert!(rt; is_enciphered_to(want), "{} bytes", want.len());
+        assert!(rt; is_encrypted_to(want), "{} bytes", want.len());
     }
 }
 
@@ -89,7 +89,7 @@ static SWAPPED: [&[&[u8]]; 3] = [&[FIRST], &[SECOND, FIRST], &[FIRST, THIRD, b"\
 fn the_last_two_of_one_to_three_blocks_are_swapped(rt: HostRuntime) {
     for pieces in &SWAPPED {
         let want = joined(rt.alloc(), pieces).expect(&rt, "memory");
-        assert!(rt; is_enciphered_to(&want), "{} bytes", want.len());
+        assert!(rt; is_encrypted_to(&want), "{} bytes", want.len());
     }
 }
 

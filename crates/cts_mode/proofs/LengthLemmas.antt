@@ -37,19 +37,19 @@ module _ (cipher : List ℕ → List ℕ) (sizes : (block : List ℕ) → length
 
     decrypted_long : length iv ≡ 16 → length (cs3_decrypted cipher iv text) ≡ length text
     decrypted_long whole =
-        let deciphered = cipher (block_at 16 text r) in
-        let joined = take (16 * r) text ++ completed piece deciphered in
+        let last_plain = cipher (block_at 16 text r) in
+        let joined = take (16 * r) text ++ completed piece last_plain in
         let size : length joined ≡ 16 * (r + 1)
-        = length-append (take (16 * r) text) (completed piece deciphered)
-        ∙ omega (arith, length-completed piece deciphered few (sizes (block_at 16 text r)), length-take-le (16 * r) text (omega (arith, cut.more))) in
+        = length-append (take (16 * r) text) (completed piece last_plain)
+        ∙ omega (arith, length-completed piece last_plain few (sizes (block_at 16 text r)), length-take-le (16 * r) text (omega (arith, cut.more))) in
         let front : length (first_blocks (plain_block cipher iv joined) (r + 1)) ≡ 16 * (r + 1)
         = length_front 16 (plain_block cipher iv joined) (r + 1)
         (λ j low. length-plain_block cipher iv joined sizes j j whole (omega arith) (omega (arith, size))) in
-        let taken : length (take (length piece) deciphered) ≡ length piece = length-take-le (length piece) deciphered (omega (arith, few, sizes (block_at 16 text r))) in
-        let end : length (xor_bytes deciphered piece) ≡ length piece
-        = ap length (sym (xor_taken piece deciphered)) ∙ length-xor_bytes piece (take (length piece) deciphered) (sym taken) in
+        let taken : length (take (length piece) last_plain) ≡ length piece = length-take-le (length piece) last_plain (omega (arith, few, sizes (block_at 16 text r))) in
+        let end : length (xor_bytes last_plain piece) ≡ length piece
+        = ap length (sym (xor_taken piece last_plain)) ∙ length-xor_bytes piece (take (length piece) last_plain) (sym taken) in
         ap length (cs3_decrypted_long cipher iv text r cut ∙ unstealing_is cipher iv text r)
-        ∙ length-append (first_blocks (plain_block cipher iv joined) (r + 1)) (xor_bytes deciphered piece)
+        ∙ length-append (first_blocks (plain_block cipher iv joined) (r + 1)) (xor_bytes last_plain piece)
         ∙ omega (arith, front, end, length-last_piece text r cut, cut.more)
 
   pub length-cs3_encrypted : 16 ≤ length text → length (cs3_encrypted cipher iv text) ≡ length text

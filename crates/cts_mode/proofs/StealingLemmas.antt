@@ -24,25 +24,25 @@ pieces text some long = record { more = omega arith; most = omega arith }
 count_is : (n r : ℕ) → 16 * (r + 1) < n → n ≤ 16 * (r + 2) → div_ceil n 16 ≡ r + 2
 count_is n r more most = omega arith
 
-pub cs3_encrypted_short : (encipher : List ℕ → List ℕ) (iv text : List ℕ) → length text ≡ 16 → cs3_encrypted encipher iv text ≡ cbc_block encipher iv text 1
+pub cs3_encrypted_short : (encrypt : List ℕ → List ℕ) (iv text : List ℕ) → length text ≡ 16 → cs3_encrypted encrypt iv text ≡ cbc_block encrypt iv text 1
 unfolding cs3_encrypted
-cs3_encrypted_short encipher iv text short = ap (λ b. cond b (cbc_block encipher iv text 1) (stealing encipher iv text (div_ceil (length text) 16))) (eq-eqb (length text) 16 short)
+cs3_encrypted_short encrypt iv text short = ap (λ b. cond b (cbc_block encrypt iv text 1) (stealing encrypt iv text (div_ceil (length text) 16))) (eq-eqb (length text) 16 short)
 
-pub cs3_encrypted_long : (encipher : List ℕ → List ℕ) (iv text : List ℕ) (r : ℕ) → Pieces text r → cs3_encrypted encipher iv text ≡ stealing encipher iv text (r + 2)
+pub cs3_encrypted_long : (encrypt : List ℕ → List ℕ) (iv text : List ℕ) (r : ℕ) → Pieces text r → cs3_encrypted encrypt iv text ≡ stealing encrypt iv text (r + 2)
 unfolding cs3_encrypted
-cs3_encrypted_long encipher iv text r pieces =
-    ap (λ b. cond b (cbc_block encipher iv text 1) (stealing encipher iv text (div_ceil (length text) 16))) (ne_eqb (length text) 16 (λ e. omega arith))
-    ∙ ap (stealing encipher iv text) (count_is (length text) r pieces.more pieces.most)
+cs3_encrypted_long encrypt iv text r pieces =
+    ap (λ b. cond b (cbc_block encrypt iv text 1) (stealing encrypt iv text (div_ceil (length text) 16))) (ne_eqb (length text) 16 (λ e. omega arith))
+    ∙ ap (stealing encrypt iv text) (count_is (length text) r pieces.more pieces.most)
 
-pub cs3_decrypted_short : (decipher : List ℕ → List ℕ) (iv text : List ℕ) → length text ≡ 16 → cs3_decrypted decipher iv text ≡ plain_block decipher iv text 0
+pub cs3_decrypted_short : (decrypt : List ℕ → List ℕ) (iv text : List ℕ) → length text ≡ 16 → cs3_decrypted decrypt iv text ≡ plain_block decrypt iv text 0
 unfolding cs3_decrypted
-cs3_decrypted_short decipher iv text short = ap (λ b. cond b (plain_block decipher iv text 0) (unstealing decipher iv text (div_ceil (length text) 16))) (eq-eqb (length text) 16 short)
+cs3_decrypted_short decrypt iv text short = ap (λ b. cond b (plain_block decrypt iv text 0) (unstealing decrypt iv text (div_ceil (length text) 16))) (eq-eqb (length text) 16 short)
 
-pub cs3_decrypted_long : (decipher : List ℕ → List ℕ) (iv text : List ℕ) (r : ℕ) → Pieces text r → cs3_decrypted decipher iv text ≡ unstealing decipher iv text (r + 2)
+pub cs3_decrypted_long : (decrypt : List ℕ → List ℕ) (iv text : List ℕ) (r : ℕ) → Pieces text r → cs3_decrypted decrypt iv text ≡ unstealing decrypt iv text (r + 2)
 unfolding cs3_decrypted
-cs3_decrypted_long decipher iv text r pieces =
-    ap (λ b. cond b (plain_block decipher iv text 0) (unstealing decipher iv text (div_ceil (length text) 16))) (ne_eqb (length text) 16 (λ e. omega arith))
-    ∙ ap (unstealing decipher iv text) (count_is (length text) r pieces.more pieces.most)
+cs3_decrypted_long decrypt iv text r pieces =
+    ap (λ b. cond b (plain_block decrypt iv text 0) (unstealing decrypt iv text (div_ceil (length text) 16))) (ne_eqb (length text) 16 (λ e. omega arith))
+    ∙ ap (unstealing decrypt iv text) (count_is (length text) r pieces.more pieces.most)
 
 module _ (text : List ℕ) (r : ℕ) (pieces : Pieces text r) where
   -- the whole blocks before the last piece, and the last piece
@@ -78,28 +78,28 @@ module _ (text : List ℕ) (r : ℕ) (pieces : Pieces text r) where
       whole_block : (xs : List ℕ) → length xs ≤ 16 → take 16 (xs ++ replicate (16 - length xs) 0) ≡ xs ++ replicate (16 - length xs) 0
       whole_block xs few = take_all 16 (zero_filled 16 xs) (omega (arith, length-zero_filled 16 xs few))
 
-  module _ (encipher : List ℕ → List ℕ) (iv : List ℕ) where
-    chained_front : (j : ℕ) → j ≤ r + 1 → cbc_block encipher iv (zero_filled (16 * (r + 2)) text) j ≡ cbc_block encipher iv whole_blocks j
-    chained_front j low = sym (cbc_block_same encipher iv whole_blocks (zero_filled (16 * (r + 2)) text) j (λ n below. filled_front n (omega arith)))
+  module _ (encrypt : List ℕ → List ℕ) (iv : List ℕ) where
+    chained_front : (j : ℕ) → j ≤ r + 1 → cbc_block encrypt iv (zero_filled (16 * (r + 2)) text) j ≡ cbc_block encrypt iv whole_blocks j
+    chained_front j low = sym (cbc_block_same encrypt iv whole_blocks (zero_filled (16 * (r + 2)) text) j (λ n below. filled_front n (omega arith)))
 
-    chained_last : cbc_block encipher iv (zero_filled (16 * (r + 2)) text) (r + 2) ≡ encipher (xor_bytes (zero_filled 16 last_piece) (cbc_block encipher iv whole_blocks (r + 1)))
+    chained_last : cbc_block encrypt iv (zero_filled (16 * (r + 2)) text) (r + 2) ≡ encrypt (xor_bytes (zero_filled 16 last_piece) (cbc_block encrypt iv whole_blocks (r + 1)))
     chained_last =
         let next : r + 2 ≡ suc (r + 1) = omega arith in
-        ap (cbc_block encipher iv (zero_filled (16 * (r + 2)) text)) next
-        ∙ cbc_block_suc encipher iv (zero_filled (16 * (r + 2)) text) (r + 1)
-        ∙ (λ i. encipher (xor_bytes (filled_last i) (chained_front (r + 1) (omega arith) i)))
+        ap (cbc_block encrypt iv (zero_filled (16 * (r + 2)) text)) next
+        ∙ cbc_block_suc encrypt iv (zero_filled (16 * (r + 2)) text) (r + 1)
+        ∙ (λ i. encrypt (xor_bytes (filled_last i) (chained_front (r + 1) (omega arith) i)))
 
     -- what is written: all blocks of the front but the last, the last block, and what is left of that one
-    pub stealing_is : stealing encipher iv text (r + 2) ≡ first_blocks (λ j. cbc_block encipher iv whole_blocks (suc j)) r ++ encipher (xor_bytes (zero_filled 16 last_piece) (cbc_block encipher iv whole_blocks (r + 1))) ++ take (length last_piece) (cbc_block encipher iv whole_blocks (r + 1))
+    pub stealing_is : stealing encrypt iv text (r + 2) ≡ first_blocks (λ j. cbc_block encrypt iv whole_blocks (suc j)) r ++ encrypt (xor_bytes (zero_filled 16 last_piece) (cbc_block encrypt iv whole_blocks (r + 1))) ++ take (length last_piece) (cbc_block encrypt iv whole_blocks (r + 1))
     stealing_is =
-        let block = cbc_block encipher iv (zero_filled (16 * (r + 2)) text) in
+        let block = cbc_block encrypt iv (zero_filled (16 * (r + 2)) text) in
         let two : r + 2 - 2 ≡ r = omega arith in
         let one : r + 2 - 1 ≡ r + 1 = omega arith in
         let left : length text - 16 * (r + 1) ≡ length last_piece = sym length-last_piece in
-        let fronts : first_blocks (λ j. block (suc j)) (r + 2 - 2) ≡ first_blocks (λ j. cbc_block encipher iv whole_blocks (suc j)) r
+        let fronts : first_blocks (λ j. block (suc j)) (r + 2 - 2) ≡ first_blocks (λ j. cbc_block encrypt iv whole_blocks (suc j)) r
         = ap (first_blocks (λ j. block (suc j))) two
-        ∙ first_blocks_same (λ j. block (suc j)) (λ j. cbc_block encipher iv whole_blocks (suc j)) r (λ j low. chained_front (suc j) (omega arith)) in
-        let tails : take (length text - 16 * (r + 2 - 1)) (block (r + 2 - 1)) ≡ take (length last_piece) (cbc_block encipher iv whole_blocks (r + 1))
+        ∙ first_blocks_same (λ j. block (suc j)) (λ j. cbc_block encrypt iv whole_blocks (suc j)) r (λ j low. chained_front (suc j) (omega arith)) in
+        let tails : take (length text - 16 * (r + 2 - 1)) (block (r + 2 - 1)) ≡ take (length last_piece) (cbc_block encrypt iv whole_blocks (r + 1))
         = ap (λ k. take (length text - 16 * k) (block k)) one
         ∙ (λ i. take (left i) (chained_front (r + 1) (omega arith) i)) in
         (λ i. fronts i ++ chained_last i ++ tails i)
@@ -133,16 +133,16 @@ end_over text xs ys r at count within is begins counts =
 
 -- C_(m-1) as it is put together
 abbrev pub completed : List ℕ → List ℕ → List ℕ
-completed piece deciphered = piece ++ drop (length piece) deciphered
+completed piece last_plain = piece ++ drop (length piece) last_plain
 
-pub length-completed : (piece deciphered : List ℕ) → length piece ≤ 16 → length deciphered ≡ 16 → length (completed piece deciphered) ≡ 16
-length-completed piece deciphered few whole = length-append piece (drop (length piece) deciphered) ∙ omega (arith, length-drop (length piece) deciphered)
+pub length-completed : (piece last_plain : List ℕ) → length piece ≤ 16 → length last_plain ≡ 16 → length (completed piece last_plain) ≡ 16
+length-completed piece last_plain few whole = length-append piece (drop (length piece) last_plain) ∙ omega (arith, length-drop (length piece) last_plain)
 
 -- what the decrypted text is, by the whole blocks and the last piece
-pub unstealing_is : (decipher : List ℕ → List ℕ) (iv text : List ℕ) (r : ℕ) → unstealing decipher iv text (r + 2) ≡ first_blocks (plain_block decipher iv (take (16 * r) text ++ completed (drop (16 * (r + 1)) text) (decipher (block_at 16 text r)))) (r + 1) ++ xor_bytes (decipher (block_at 16 text r)) (drop (16 * (r + 1)) text)
-unstealing_is decipher iv text r =
+pub unstealing_is : (decrypt : List ℕ → List ℕ) (iv text : List ℕ) (r : ℕ) → unstealing decrypt iv text (r + 2) ≡ first_blocks (plain_block decrypt iv (take (16 * r) text ++ completed (drop (16 * (r + 1)) text) (decrypt (block_at 16 text r)))) (r + 1) ++ xor_bytes (decrypt (block_at 16 text r)) (drop (16 * (r + 1)) text)
+unstealing_is decrypt iv text r =
     let two : r + 2 - 2 ≡ r = omega arith in
     let one : r + 2 - 1 ≡ r + 1 = omega arith in
     let parts : ℕ → ℕ → List ℕ
-    = λ a b. first_blocks (plain_block decipher iv (take (16 * b) text ++ completed (drop (16 * a) text) (decipher (block_at 16 text b)))) a ++ xor_bytes (decipher (block_at 16 text b)) (drop (16 * a) text) in
+    = λ a b. first_blocks (plain_block decrypt iv (take (16 * b) text ++ completed (drop (16 * a) text) (decrypt (block_at 16 text b)))) a ++ xor_bytes (decrypt (block_at 16 text b)) (drop (16 * a) text) in
     (λ i. parts (one i) (two i))

@@ -41,9 +41,9 @@ pub fn cts_decrypt(key: &Aes256, iv: [u8; 16], text: &mut [u8])
     }
     let end = 16 * ((text.len() - 1) / 16);
     let (blocks, last) = text.split_at_mut(end);
-    let deciphered = key.decrypt_block(block_from(blocks, end - 16));
-    let stolen = whole(last, deciphered);
-    xor_into(last, &deciphered[..last.len()]);
+    let last_plain = key.decrypt_block(block_from(blocks, end - 16));
+    let stolen = whole(last, last_plain);
+    xor_into(last, &last_plain[..last.len()]);
     blocks[end - 16..].copy_from_slice(&stolen);
     unchain(key, iv, blocks);
 }

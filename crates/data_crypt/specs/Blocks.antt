@@ -16,13 +16,13 @@ pub record Seal : Type 0 where
   pub unit : DataUnit
 
 -- what is left of it in place once its key is wiped with zeros
-abbrev pub wiped : Seal → Seal
-wiped seal = record { key = replicate 64 0; start = seal.start; unit = seal.unit }
+abbrev pub seal_without_key : Seal → Seal
+seal_without_key seal = record { key = replicate 64 0; start = seal.start; unit = seal.unit }
 
 -- nothing, if there was none
 unfoldable pub wiped_seal : Option Seal → Option Seal
 wiped_seal None = None
-wiped_seal (Some seal) = Some (wiped seal)
+wiped_seal (Some seal) = Some (seal_without_key seal)
 
 -- the index of the first unit of block j
 abbrev pub first_index : Seal → ℕ → ℕ

@@ -35,5 +35,5 @@ abbrev pub is_elsewhere : ℕ → Pair → Bool
 is_elsewhere dir pair = not (is_in dir pair)
 
 -- the node that the name resolves to, if that is cached
-abbrev pub cached : NameList → ℕ → List ℕ → Option ℕ
-cached names dir name = lookup (is_name dir name) names.pairs
+abbrev pub cached_node : NameList → ℕ → List ℕ → Option ℕ
+cached_node names dir name = lookup (is_name dir name) names.pairs

@@ -2,19 +2,19 @@
 
 ghost use Rattle.std.specs.Prelude.{◌≡◌, ◌≤◌, [], length, Some, option_map, IfOk, OnOk, OnErr};
 ghost use Rattle.std.specs.List.{find};
-ghost use Rattle.dentry_cache.specs.Names.{no_names, with_pairs, key_of, cached, is_in};
-ghost use Rattle.dentry_cache.specs.NameChanges.{used, kept, one_more_refused, forgotten, dir_forgotten};
+ghost use Rattle.dentry_cache.specs.Names.{no_names, with_pairs, key_of, cached_node, is_in};
+ghost use Rattle.dentry_cache.specs.NameChanges.{with_used_name, with_cached_name, with_one_more_refused, without_cached_name, without_dir};
 ghost use Rattle.dentry_cache.specs.HeldNames.{HoldsNoMore, HoldsBeside, HoldsNone, HoldsNoneIn};
-ghost use Rattle.dentry_cache.specs.declared.limits.TheConstants.{MOST_CACHED_NAMES};
+ghost use Rattle.dentry_cache.specs.declared.limits.TheConstants.{MAX_CACHED_NAMES};
 
 use crate::key::NameKey;
-use crate::limits::{MOST_CACHED_NAME_BYTES, MOST_CACHED_NAMES};
+use crate::limits::{MAX_CACHED_NAME_BYTES, MAX_CACHED_NAMES};
 use lru::LruCache;
 use std::alloc::{AllocError, Global};
 use std::marker::Model;
 use std::num::NonZeroUsize;
 
-/// Names with the nodes that they resolve to, at most `MOST_CACHED_NAMES`, in the order of their last use,
+/// Names with the nodes that they resolve to, at most `MAX_CACHED_NAMES`, in the order of their last use,
 /// latest first; and how often a name was not cached, since there was no memory.
 pub struct NameCache {
     pairs: LruCache<NameKey, u32>,
@@ -35,7 +35,7 @@ impl Model for NameCache {
     ghost use Rattle.std.specs.Prelude.{◌≡◌, ℕ, List, refl};
     ghost use Rattle.std.specs.Coded.{code_by, coded×, coded_list, coded_ℕ};
     ghost use Rattle.dentry_cache.specs.contracts.key.NameKey as key;
-    ghost use Rattle.dentry_cache.specs.declared.limits.TheConstants.{MOST_CACHED_NAMES};
+    ghost use Rattle.dentry_cache.specs.declared.limits.TheConstants.{MAX_CACHED_NAMES};
     ghost use Rattle.dentry_cache.specs.Names.{NameList, Pair};
 
     ghost Value = { NameList };
@@ -48,7 +48,7 @@ impl Model for NameCache {
 
     ghost view = { λ c. record { pairs = c.pairs.entries; refused = c.refused } };
 
-    ghost invariant = { λ c. c.pairs.cap ≡ MOST_CACHED_NAMES };
+    ghost invariant = { λ c. c.pairs.cap ≡ MAX_CACHED_NAMES };
 }
 
 impl NameCache {
@@ -56,7 +56,7 @@ impl NameCache {
     pub fn new(alloc: Global) -> Result<NameCache, AllocError>
         ensures { IfOk result (λ names. names ≡ no_names) }
     {
-        let Some(most) = NonZeroUsize::new(MOST_CACHED_NAMES) else {
+        let Some(most) = NonZeroUsize::new(MAX_CACHED_NAMES) else {
             unreachable!()
         };
         Ok(NameCache {
@@ -74,10 +74,10 @@ impl NameCache {
 
     /// Returns the node that the name resolves to, if that is cached. The name is then the last one used.
     pub fn find(&mut self, dir: u32, name: &[u8]) -> Option<u32>
-        requires short { length name.now ≤ MOST_CACHED_NAME_BYTES }
-        ensures value { result ≡ cached self.old dir name.now }
-        ensures recent { self.new ≡ used self.old dir name.now }
-        ensures stays { cached self.new dir name.now ≡ result }
+        requires short { length name.now ≤ MAX_CACHED_NAME_BYTES }
+        ensures value { result ≡ cached_node self.old dir name.now }
+        ensures recent { self.new ≡ with_used_name self.old dir name.now }
+        ensures stays { cached_node self.new dir name.now ≡ result }
         ensures no_more { HoldsNoMore self.old self.new }
     {
         self.pairs.get(&NameKey::of(dir, name)).copied()
@@ -87,14 +87,14 @@ impl NameCache {
     /// longest is removed. If there is no memory, the cache is as before, and one more is counted as
     /// refused.
     pub fn keep(&mut self, dir: u32, name: &[u8], number: u32) -> Result<(), AllocError>
-        requires short { length name.now ≤ MOST_CACHED_NAME_BYTES }
-        ensures kept { OnOk result (self.new ≡ kept self.old dir name.now number) }
-        ensures found { OnOk result (cached self.new dir name.now ≡ Some number) }
-        ensures refused { OnErr result (self.new ≡ one_more_refused self.old) }
+        requires short { length name.now ≤ MAX_CACHED_NAME_BYTES }
+        ensures kept { OnOk result (self.new ≡ with_cached_name self.old dir name.now number) }
+        ensures found { OnOk result (cached_node self.new dir name.now ≡ Some number) }
+        ensures refused { OnErr result (self.new ≡ with_one_more_refused self.old) }
         ensures beside { HoldsBeside self.old self.new (key_of dir name.now, number) }
-        ensures few { length self.new.pairs ≤ MOST_CACHED_NAMES }
+        ensures few { length self.new.pairs ≤ MAX_CACHED_NAMES }
     {
-        // That there are at most `MOST_CACHED_NAMES`.
+        // That there are at most `MAX_CACHED_NAMES`.
         let _few = self.pairs.len();
         match self.pairs.put(NameKey::of(dir, name), number) {
             Ok(_) => Ok(()),
@@ -107,8 +107,8 @@ impl NameCache {
 
     /// Removes the cached name. Takes no memory.
     pub fn forget(&mut self, dir: u32, name: &[u8])
-        requires short { length name.now ≤ MOST_CACHED_NAME_BYTES }
-        ensures gone { self.new ≡ forgotten self.old dir name.now }
+        requires short { length name.now ≤ MAX_CACHED_NAME_BYTES }
+        ensures gone { self.new ≡ without_cached_name self.old dir name.now }
         ensures none { HoldsNone self.new dir name.now }
         ensures no_more { HoldsNoMore self.old self.new }
     {
@@ -123,7 +123,7 @@ impl NameCache {
 
     /// Forgets all names of the directory. It takes no memory. It goes over all names.
     pub fn forget_dir(&mut self, dir: u32)
-        ensures gone { self.new ≡ dir_forgotten self.old dir }
+        ensures gone { self.new ≡ without_dir self.old dir }
         ensures none { HoldsNoneIn self.new dir }
         ensures no_more { HoldsNoMore self.old self.new }
     {
@@ -146,7 +146,7 @@ impl NameCache {
 
     // Removes the cached name.
     fn take(&mut self, key: &NameKey)
-        ensures { self.new ≡ forgotten self.old key.now.dir key.now.name }
+        ensures { self.new ≡ without_cached_name self.old key.now.dir key.now.name }
     {
         let _gone = self.pairs.pop_entry(key);
     }

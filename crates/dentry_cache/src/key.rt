@@ -2,7 +2,7 @@
 
 ghost use Rattle.std.specs.Prelude.{◌≡◌, ◌≤◌, length};
 
-use crate::limits::MOST_CACHED_NAME_BYTES;
+use crate::limits::MAX_CACHED_NAME_BYTES;
 use short_bytes::Filled;
 use std::hash::{Hash, Hasher};
 
@@ -12,13 +12,13 @@ pub struct NameKey {
     /// The number of the directory.
     pub dir: u32,
     /// The bytes of the name.
-    pub name: Filled<MOST_CACHED_NAME_BYTES>,
+    pub name: Filled<MAX_CACHED_NAME_BYTES>,
 }
 
 impl NameKey {
     // The name of the directory.
     pub(crate) fn of(dir: u32, name: &[u8]) -> NameKey
-        requires short { length name.now ≤ MOST_CACHED_NAME_BYTES }
+        requires short { length name.now ≤ MAX_CACHED_NAME_BYTES }
         ensures { result ≡ record { dir = dir; name = name.now } }
     {
         NameKey {

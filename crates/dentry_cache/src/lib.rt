@@ -9,4 +9,4 @@ mod limits;
 pub use cache::NameCache;
 pub use key::NameKey;
 pub use laws::a_name_cache_is_what_is_seen_of_it;
-pub use limits::{MOST_CACHED_NAME_BYTES, MOST_CACHED_NAMES};
+pub use limits::{MAX_CACHED_NAME_BYTES, MAX_CACHED_NAMES};

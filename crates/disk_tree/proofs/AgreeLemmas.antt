@@ -2,7 +2,7 @@
 use Rattle.std.proofs.Common.{◌≡◌, ℕ, List, [], ◌∷◌, map, length, refl, ap, ◌∙◌, ◌+◌, sym}
 use Rattle.std.proofs.lemmas.List.Sums.{sum_by-cons}
 use Rattle.std.specs.List.{sum_by}
-use Rattle.number_map.specs.Numbered.{Numbered, AgreesUnder, entries}
+use Rattle.number_map.specs.Numbered.{NumberedValues, AgreesUnder, entries}
 use Rattle.number_map.proofs.AgreementLemmas.{agree_entries}
 use Rattle.disk_tree.specs.Nodes.{blocks_of}
 use Rattle.disk_tree.specs.DiskTree.{Disk, block_total}
@@ -13,7 +13,7 @@ sum_mapped f g h same [] = refl
 sum_mapped f g h same (x ∷ xs) =
     sum_by-cons g (f x) (map f xs) ∙ (λ i. same x i + sum_mapped f g h same xs i) ∙ sym (sum_by-cons h x xs)
 
-pub totals_agree : {V : Type 0} (stored : V → StoredNode) (count : V → ℕ) (nodes : Numbered V) (disk : Disk) → AgreesUnder stored nodes disk →
+pub totals_agree : {V : Type 0} (stored : V → StoredNode) (count : V → ℕ) (nodes : NumberedValues V) (disk : Disk) → AgreesUnder stored nodes disk →
     ((v : V) → length (blocks_of (stored v).body) ≡ count v) → block_total disk ≡ sum_by (λ e. count e.1) (entries nodes)
 unfolding block_total
 totals_agree {V} stored count nodes disk agree counts =

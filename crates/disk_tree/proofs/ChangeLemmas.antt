@@ -1,9 +1,9 @@
 -- Two changes of a map, at one number and at two.
 use Rattle.std.proofs.Common.{◌≡◌, ◌≢◌, ℕ, Option, Some, None, refl, sym, ap, ◌∙◌}
-use Rattle.number_map.specs.Numbered.{Numbered, get, insert, changed}
+use Rattle.number_map.specs.Numbered.{NumberedValues, get, insert, changed}
 use Rattle.number_map.proofs.NumberedLemmas.{changed_Some, changed_None, changed_other, changed_inserted, changed_through, insert_same}
 
-module _ {V : Type 0} (m : Numbered V) (k : ℕ) where
+module _ {V : Type 0} (m : NumberedValues V) (k : ℕ) where
   fixed_by_case : (f : V → V) (o : Option V) → get m k ≡ o → ((v : V) → o ≡ Some v → f v ≡ v) → changed m k f ≡ m
   fixed_by_case f None is same = changed_None m k f is
   fixed_by_case f (Some v) is same = changed_Some m k f v is ∙ ap (insert m k) (same v refl) ∙ insert_same m k v is
@@ -42,7 +42,7 @@ module _ {V : Type 0} (m : Numbered V) (k : ℕ) where
   changed_apart x f g apart = apart_by_case x f g (get m x) refl apart
 
 -- a value that is put, with a change of its own before or after one elsewhere
-pub changed_first : {V : Type 0} (m : Numbered V) (k x : ℕ) (f g : V → V) (v : V) → (k ≢ x) → changed (insert m x (g v)) k f ≡ changed (changed (insert m x v) k f) x g
+pub changed_first : {V : Type 0} (m : NumberedValues V) (k x : ℕ) (f g : V → V) (v : V) → (k ≢ x) → changed (insert m x (g v)) k f ≡ changed (changed (insert m x v) k f) x g
 changed_first m k x f g v apart =
     ap (λ y. changed y k f) (sym (changed_inserted m x v g))
     ∙ changed_apart (insert m x v) k x f g apart

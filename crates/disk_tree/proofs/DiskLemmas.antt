@@ -8,10 +8,10 @@ use Rattle.std.specs.Str.{bytes_eq}
 use Rattle.number_map.specs.Numbered.{get, insert, remove, changed, empty}
 use Rattle.number_map.proofs.NumberedLemmas.{remove_same, insert_other}
 use Rattle.disk_tree.specs.Entries.{Entries, number_under, with_entry, without_entry}
-use Rattle.disk_tree.specs.Blocks.{zero_block, grown, written, block_of, with_block}
+use Rattle.disk_tree.specs.Blocks.{zero_block, blocks_grown_to, written_over_front, block_of, with_block}
 use Rattle.disk_tree.specs.Nodes.{entries_of, blocks_of, with_entries, with_blocks, with_size, on_body, named_as, IsDir, IsFile}
 use Rattle.disk_tree.specs.DiskTree.{Disk, block_total, blocks_in, entries_in, file_blocks, children, of_node, IsDirAt, IsFileAt, root, first_disk}
-use Rattle.disk_tree.specs.EntryChanges.{entered}
+use Rattle.disk_tree.specs.EntryChanges.{with_entry_and_name}
 use Rattle.disk_tree.specs.declared.node.StoredNode.{StoredNode}
 use Rattle.disk_tree.specs.declared.node.Body.{Body}
 use Rattle.disk_tree.specs.declared.node.Body.TheVariants.{Dir, File, Link}
@@ -43,7 +43,7 @@ size_keeps size (Link target) = refl
 
 pub writing_keeps : (index : ℕ) (w : List ℕ) (body : Body) → length (blocks_of (with_blocks (with_block index w) body)) ≡ length (blocks_of body)
 writing_keeps index w (Dir entries) = refl
-writing_keeps index w (File blocks size) = length-set blocks index (written (block_of blocks index) w)
+writing_keeps index w (File blocks size) = length-set blocks index (written_over_front (block_of blocks index) w)
 writing_keeps index w (Link target) = refl
 
 -- a node without blocks is added
@@ -60,20 +60,20 @@ removed_by_case disk k (Some node) is = total_removed count_of disk k node is
 pub removed_total : (disk : Disk) (k : ℕ) → block_total (remove disk k) + length (blocks_in (get disk k)) ≡ block_total disk
 removed_total disk k = removed_by_case disk k (get disk k) refl
 
-grown_count : (n : ℕ) (body : Body) → IsFile body → length (blocks_of (with_blocks (grown n) body)) ≡ length (blocks_of body) + (n - length (blocks_of body))
+grown_count : (n : ℕ) (body : Body) → IsFile body → length (blocks_of (with_blocks (blocks_grown_to n) body)) ≡ length (blocks_of body) + (n - length (blocks_of body))
 grown_count n (Dir entries) file = absurd file
 grown_count n (File blocks size) file =
     length-append blocks (replicate (n - length blocks) zero_block) ∙ ap (λ k. length blocks + k) (length-replicate (n - length blocks) zero_block)
 grown_count n (Link target) file = absurd file
 
-grown_by_case : (disk : Disk) (k n : ℕ) (o : Option StoredNode) → get disk k ≡ o → of_node ⊥ (λ node. IsFile node.body) o → block_total (changed disk k (on_body (with_blocks (grown n)))) ≡ block_total disk + (n - length (blocks_in o))
+grown_by_case : (disk : Disk) (k n : ℕ) (o : Option StoredNode) → get disk k ≡ o → of_node ⊥ (λ node. IsFile node.body) o → block_total (changed disk k (on_body (with_blocks (blocks_grown_to n)))) ≡ block_total disk + (n - length (blocks_in o))
 unfolding block_total
 grown_by_case disk k n None is file = absurd file
 grown_by_case disk k n (Some node) is file =
-    omega (arith, total_changed_to count_of disk k (on_body (with_blocks (grown n))) node is, grown_count n node.body file)
+    omega (arith, total_changed_to count_of disk k (on_body (with_blocks (blocks_grown_to n))) node is, grown_count n node.body file)
 
 -- a file that grows by n blocks adds n to the total
-pub grown_total : (disk : Disk) (k n : ℕ) → IsFileAt disk k → block_total (changed disk k (on_body (with_blocks (grown n)))) ≡ block_total disk + (n - length (file_blocks disk k))
+pub grown_total : (disk : Disk) (k n : ℕ) → IsFileAt disk k → block_total (changed disk k (on_body (with_blocks (blocks_grown_to n)))) ≡ block_total disk + (n - length (file_blocks disk k))
 grown_total disk k n file = grown_by_case disk k n (get disk k) refl file
 
 body_fixed : (name : List ℕ) (body : Body) → number_under name (entries_of body) ≡ None → with_entries (without_entry name) body ≡ body
@@ -133,7 +133,7 @@ module _ (disk put : Disk) (dir number : ℕ) (node : StoredNode) (there : IsDir
 
 -- a node without blocks is added, and an entry
 pub entered_total : (disk new : Disk) (dir number : ℕ) (name : List ℕ) (node : StoredNode) → get disk number ≡ None → blocks_of node.body ≡ [] →
-    new ≡ entered (insert disk number node) dir name number → block_total disk ≡ block_total new
+    new ≡ with_entry_and_name (insert disk number node) dir name number → block_total disk ≡ block_total new
 entered_total disk new dir number name node absent bare is =
     let put : StoredNode → StoredNode = on_body (with_entries (with_entry name number)) in
     let added : Disk = insert disk number node in

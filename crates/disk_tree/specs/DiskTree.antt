@@ -1,14 +1,14 @@
 -- The content of the disk: a finite map from numbers to stored nodes.
 use Rattle.std.specs.Prelude.{ℕ, true, List, [], Option, Some, None, length}
 use Rattle.std.specs.List.{sum_by}
-use Rattle.number_map.specs.Numbered.{Numbered, empty, get, insert, entries}
+use Rattle.number_map.specs.Numbered.{NumberedValues, empty, get, insert, entries}
 use Rattle.disk_tree.specs.Entries.{Entries}
 use Rattle.disk_tree.specs.Nodes.{entries_of, blocks_of, size_of, IsDir, IsFile}
 use Rattle.disk_tree.specs.declared.node.StoredNode.{StoredNode}
 use Rattle.disk_tree.specs.declared.node.Body.TheVariants.{Dir}
 
 abbrev pub Disk : Type 0
-Disk = Numbered StoredNode
+Disk = NumberedValues StoredNode
 
 -- the initial disk: node 0 alone, an empty directory without context, which counts as named
 abbrev pub root : StoredNode

@@ -1,11 +1,11 @@
 pub mod Entries
 pub mod Blocks
-pub mod BlockLends
+pub mod BlockWrites
 pub mod Nodes
 pub mod DiskTree
 pub mod EntryChanges
-pub mod TreeLends
-pub mod BodyLends
+pub mod TreeWrites
+pub mod BodyWrites
 pub mod Laws
 pub mod NameIndex
 pub mod Indexed

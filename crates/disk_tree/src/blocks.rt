@@ -2,7 +2,7 @@
 ghost use Rattle.std.specs.Prelude.{◌≡◌, ◌<◌, ◌≤◌, [], ◌∷◌, ◌++◌, length, slice_get};
 ghost use Rattle.std.specs.Prelude.{option_copied, IfOk, IsOk, OnOk, OnErr};
 ghost use Rattle.std.specs.Borrow.{sem};
-ghost use Rattle.disk_tree.specs.Blocks.{zero_block, grown, block_of};
+ghost use Rattle.disk_tree.specs.Blocks.{zero_block, blocks_grown_to, block_of};
 
 use mount_limits::BLOCK_SIZE;
 use std::alloc::{AllocError, Global};
@@ -32,7 +32,7 @@ impl Model for Block {
 }
 
 impl Block {
-    ghost use Rattle.disk_tree.specs.BlockLends.{LendsBlock};
+    ghost use Rattle.disk_tree.specs.BlockWrites.{WritesBlock};
 
     pub(crate) fn zeros(alloc: Global) -> Result<Block, AllocError>
         ensures { IfOk result (λ block. block ≡ zero_block) }
@@ -51,7 +51,7 @@ impl Block {
 
     // The bytes of the block for writing.
     pub(crate) fn bytes_mut(&mut self) -> &mut [u8]
-        ensures* writes_back { sem 𝓛 (LendsBlock self.entry result) }
+        ensures* writes_back { sem 𝓛 (WritesBlock self.entry result) }
         ensures value { result.now ≡ self.old }
         ensures whole { length result.now ≡ BLOCK_SIZE }
     {
@@ -80,7 +80,7 @@ impl Model for BlockList {
 }
 
 impl BlockList {
-    ghost use Rattle.disk_tree.specs.BlockLends.{LendsOne};
+    ghost use Rattle.disk_tree.specs.BlockWrites.{WritesOneBlock};
 
     /// Returns an empty list. Allocates nothing before the first block.
     pub fn new(alloc: Global) -> Self
@@ -117,7 +117,7 @@ impl BlockList {
     // Adds blocks of zeros at the end until there are `count`. After an error the list is unchanged. If
     // none is added, nothing is allocated.
     pub(crate) fn grow(&mut self, alloc: Global, count: usize) -> Result<(), AllocError>
-        ensures grown { OnOk result (self.new ≡ grown count self.old) }
+        ensures grown { OnOk result (self.new ≡ blocks_grown_to count self.old) }
         ensures kept { OnErr result (self.new ≡ self.old) }
         ensures enough { count ≤ length self.old → IsOk result }
     {
@@ -134,7 +134,7 @@ impl BlockList {
     // The bytes of the block at the index for writing.
     pub(crate) fn bytes_mut(&mut self, index: usize) -> &mut [u8]
         requires { index < length self.old }
-        ensures* writes_back { sem 𝓛 (LendsOne self.entry index result) }
+        ensures* writes_back { sem 𝓛 (WritesOneBlock self.entry index result) }
         ensures value { result.now ≡ block_of self.old index }
         ensures whole { length result.now ≡ BLOCK_SIZE }
     {

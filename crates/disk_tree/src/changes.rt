@@ -3,9 +3,9 @@ ghost use Rattle.std.specs.Prelude.{◌≡◌, ◌≢◌, ◌+◌, ◌-◌, ◌<
 ghost use Rattle.std.specs.Prelude.{IfErr, IfSome, IsOk, IsSome, IsTrue, OnOk, OnErr};
 ghost use Rattle.std.specs.Borrow.{sem};
 ghost use Rattle.number_map.specs.Numbered as map;
-ghost use Rattle.disk_tree.specs.Blocks.{grown, block_of};
+ghost use Rattle.disk_tree.specs.Blocks.{blocks_grown_to, block_of};
 ghost use Rattle.disk_tree.specs.DiskTree.{IsDirAt, IsFileAt, children, blocks_in, file_blocks, block_total};
-ghost use Rattle.disk_tree.specs.EntryChanges.{entered, dropped, moved};
+ghost use Rattle.disk_tree.specs.EntryChanges.{with_entry_and_name, without_entry_and_name, with_moved_entry};
 ghost use Rattle.disk_tree.specs.Entries.{number_under};
 ghost use Rattle.disk_tree.specs.Nodes.{blocks_of, with_blocks, with_size, on_body, with_context};
 
@@ -13,11 +13,11 @@ use crate::edits;
 use crate::fault::DiskFault;
 use crate::node::StoredNode;
 use crate::tree::DiskTree;
-use mount_limits::{BLOCK_SIZE, MOST_BLOCKS, MOST_CHILDREN, MOST_NODES};
+use mount_limits::{BLOCK_SIZE, MAX_BLOCKS, MAX_CHILDREN, MAX_NODES};
 use std::alloc::Global;
 
 impl DiskTree {
-    ghost use Rattle.disk_tree.specs.TreeLends.{LendsFileBlock};
+    ghost use Rattle.disk_tree.specs.TreeWrites.{WritesFileBlock};
 
     /// Adds a node under a number that has none. A file must have no blocks yet.
     ///
@@ -28,10 +28,10 @@ impl DiskTree {
         requires no_blocks { blocks_of node.body ≡ [] }
         ensures added { OnOk result (self.new ≡ map.insert self.old number node) }
         ensures kept { OnErr result (self.new ≡ self.old) }
-        ensures full { MOST_NODES ≤ map.len self.old → result ≡ Err DiskFault.NoSpace }
-        ensures no_space { IfErr result (λ fault. fault ≡ DiskFault.NoSpace → MOST_NODES ≤ map.len self.old) }
+        ensures full { MAX_NODES ≤ map.len self.old → result ≡ Err DiskFault.NoSpace }
+        ensures no_space { IfErr result (λ fault. fault ≡ DiskFault.NoSpace → MAX_NODES ≤ map.len self.old) }
     {
-        if self.nodes.len() >= MOST_NODES {
+        if self.nodes.len() >= MAX_NODES {
             return Err(DiskFault::NoSpace);
         }
         match self.nodes.set(number, node) {
@@ -44,7 +44,7 @@ impl DiskTree {
     pub fn remove_node(&mut self, number: u32)
         ensures { self.new ≡ map.remove self.old number }
     {
-        let gone = blocks_gone(self.nodes.remove(number));
+        let gone = count_of_blocks(self.nodes.remove(number));
         self.blocks -= gone;
     }
 
@@ -68,14 +68,14 @@ impl DiskTree {
         number: u32,
     ) -> Result<(), DiskFault>
         requires { IsDirAt self.old dir }
-        ensures put { OnOk result (self.new ≡ entered self.old dir name.now number) }
+        ensures put { OnOk result (self.new ≡ with_entry_and_name self.old dir name.now number) }
         ensures kept { OnErr result (self.new ≡ self.old) }
-        ensures full { MOST_CHILDREN ≤ length (children self.old dir) → result ≡ Err DiskFault.NoSpace }
+        ensures full { MAX_CHILDREN ≤ length (children self.old dir) → result ≡ Err DiskFault.NoSpace }
         ensures no_space { IfErr result (λ fault. fault ≡ DiskFault.NoSpace
-            → MOST_CHILDREN ≤ length (children self.old dir)) }
+            → MAX_CHILDREN ≤ length (children self.old dir)) }
     {
         edits::add_within(&mut self.nodes, alloc, dir, name, number)?;
-        edits::set_named(&mut self.nodes, number, true);
+        edits::set_name_flag(&mut self.nodes, number, true);
         Ok(())
     }
 
@@ -84,12 +84,12 @@ impl DiskTree {
     pub fn drop_entry(&mut self, dir: u32, name: &[u8]) -> bool
         ensures found { IsTrue result ↔ IsSome (number_under name.now (children self.old dir)) }
         ensures gone { IfSome (number_under name.now (children self.old dir)) (λ number.
-            self.new ≡ dropped self.old dir name.now number) }
+            self.new ≡ without_entry_and_name self.old dir name.now number) }
         ensures kept { number_under name.now (children self.old dir) ≡ None → self.new ≡ self.old }
     {
         match edits::remove_entry(&mut self.nodes, dir, name) {
             Some(number) => {
-                edits::set_named(&mut self.nodes, number, false);
+                edits::set_name_flag(&mut self.nodes, number, false);
                 true
             }
             None => false,
@@ -112,14 +112,14 @@ impl DiskTree {
         requires to { IsDirAt self.old to }
         requires there { IsSome (number_under name.now (children self.old dir)) }
         ensures moved { OnOk result (IfSome (number_under name.now (children self.old dir)) (λ number.
-            self.new ≡ moved self.old dir name.now to new_name.now number)) }
+            self.new ≡ with_moved_entry self.old dir name.now to new_name.now number)) }
         ensures kept { OnErr result (self.new ≡ self.old) }
-        ensures full { to ≢ dir → MOST_CHILDREN ≤ length (children self.old to)
+        ensures full { to ≢ dir → MAX_CHILDREN ≤ length (children self.old to)
             → result ≡ Err DiskFault.NoSpace }
         ensures no_space { IfErr result (λ fault. fault ≡ DiskFault.NoSpace
-            → (to ≢ dir) × (MOST_CHILDREN ≤ length (children self.old to))) }
+            → (to ≢ dir) × (MAX_CHILDREN ≤ length (children self.old to))) }
     {
-        if to != dir && self.entry_count(to) >= MOST_CHILDREN {
+        if to != dir && self.entry_count(to) >= MAX_CHILDREN {
             return Err(DiskFault::NoSpace);
         }
         let Some(number) = self.entry(dir, name) else {
@@ -142,16 +142,16 @@ impl DiskTree {
     pub fn grow(&mut self, alloc: Global, file: u32, blocks: u32) -> Result<(), DiskFault>
         requires { IsFileAt self.old file }
         ensures grown { OnOk result (self.new
-            ≡ map.changed self.old file (on_body (with_blocks (grown blocks)))) }
+            ≡ map.changed self.old file (on_body (with_blocks (blocks_grown_to blocks)))) }
         ensures kept { OnErr result (self.new ≡ self.old) }
         ensures enough { blocks ≤ length (file_blocks self.old file) → IsOk result }
-        ensures full { MOST_BLOCKS < block_total self.old + (blocks - length (file_blocks self.old file))
+        ensures full { MAX_BLOCKS < block_total self.old + (blocks - length (file_blocks self.old file))
             → result ≡ Err DiskFault.NoSpace }
         ensures no_space { IfErr result (λ fault. fault ≡ DiskFault.NoSpace
-            → MOST_BLOCKS < block_total self.old + (blocks - length (file_blocks self.old file))) }
+            → MAX_BLOCKS < block_total self.old + (blocks - length (file_blocks self.old file))) }
     {
         let more = (blocks as usize).saturating_sub(self.block_count(file));
-        if self.blocks + more > MOST_BLOCKS {
+        if self.blocks + more > MAX_BLOCKS {
             return Err(DiskFault::NoSpace);
         }
         match edits::grow(&mut self.nodes, alloc, file, blocks as usize) {
@@ -167,7 +167,7 @@ impl DiskTree {
     /// the tree is unchanged.
     pub fn block_mut(&mut self, file: u32, index: u32) -> &mut [u8]
         requires { index < length (file_blocks self.old file) }
-        ensures* writes_back { sem 𝓛 (LendsFileBlock self.entry file index result) }
+        ensures* writes_back { sem 𝓛 (WritesFileBlock self.entry file index result) }
         ensures value { result.now ≡ block_of (file_blocks self.old file) index }
         ensures whole { length result.now ≡ BLOCK_SIZE }
     {
@@ -186,7 +186,7 @@ impl DiskTree {
 }
 
 // The number of blocks that are removed with the node.
-pub(crate) fn blocks_gone(node: Option<StoredNode>) -> usize
+pub(crate) fn count_of_blocks(node: Option<StoredNode>) -> usize
     ensures { result ≡ length (blocks_in node) }
 {
     match node {

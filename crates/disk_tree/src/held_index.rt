@@ -3,10 +3,10 @@ ghost use Rattle.std.specs.Prelude.{◌≡◌, [], ℕ, nat_eq, true, false};
 ghost use Rattle.std.specs.Prelude.{if◌then◌else◌, IfOk, OnOk, OnErr};
 ghost use Rattle.std.specs.List.{IsDistinct};
 ghost use Rattle.std.specs.Map.{keys_of};
-ghost use Rattle.disk_tree.specs.Indexed.{by_hash, hashed, oldest};
-ghost use Rattle.disk_tree.specs.NameIndex.{hash_of, indexed};
+ghost use Rattle.disk_tree.specs.Indexed.{by_hash, oldest_of_hash, oldest};
+ghost use Rattle.disk_tree.specs.NameIndex.{hash_of, indexed_entry};
 
-use crate::name_index::{Index, Order, add_hash, drop_hash, searched, under_hash};
+use crate::name_index::{Index, Order, add_hash, drop_hash, search_by_name, under_hash};
 use std::alloc::{AllocError, Global};
 use std::collections::HashMap;
 use std::marker::Model;
@@ -43,9 +43,9 @@ impl HeldIndex {
         hash: u64,
         found: (u64, u32),
     ) -> Result<bool, AllocError>
-        ensures lacked { IfOk result (λ alone. alone ≡ true → indexed self.old hash ≡ None) }
-        ensures put { OnOk result ((other : ℕ) → indexed self.new other
-            ≡ if nat_eq hash other then Some found else indexed self.old other) }
+        ensures lacked { IfOk result (λ alone. alone ≡ true → indexed_entry self.old hash ≡ None) }
+        ensures put { OnOk result ((other : ℕ) → indexed_entry self.new other
+            ≡ if nat_eq hash other then Some found else indexed_entry self.old other) }
         ensures kept { OnErr result (self.new ≡ self.old) }
     {
         match &mut self.held {
@@ -61,8 +61,8 @@ impl HeldIndex {
 
     // Removes what is under the hash.
     pub(crate) fn remove(&mut self, hash: u64)
-        ensures { (other : ℕ) → indexed self.new other
-            ≡ if nat_eq hash other then None else indexed self.old other }
+        ensures { (other : ℕ) → indexed_entry self.new other
+            ≡ if nat_eq hash other then None else indexed_entry self.old other }
     {
         if let Some(index) = &mut self.held {
             drop_hash(index, hash);
@@ -71,7 +71,7 @@ impl HeldIndex {
 
     // What the index has under the hash.
     fn under_hash(&self, hash: u64) -> Option<(u64, u32)>
-        ensures { result ≡ indexed self.now hash }
+        ensures { result ≡ indexed_entry self.now hash }
     {
         match &self.held {
             Some(index) => under_hash(index, hash),
@@ -90,12 +90,12 @@ pub(crate) fn oldest_of(
     hash: u64,
 ) -> Option<(u64, u32)>
     requires hash { hash ≡ hash_of name.now }
-    requires named { doubled ≡ false → (other : ℕ) → indexed index.now other ≡ hashed order.now other }
+    requires named { doubled ≡ false → (other : ℕ) → indexed_entry index.now other ≡ oldest_of_hash order.now other }
     requires apart { doubled ≡ false → IsDistinct nat_eq (keys_of (by_hash order.now)) }
     ensures { result ≡ oldest order.now name.now }
 {
     if doubled {
-        return searched(order, name);
+        return search_by_name(order, name);
     }
     let Some((place, number)) = index.under_hash(hash) else {
         return None;

@@ -18,6 +18,6 @@ pub use entries::DirEntries;
 pub use fault::DiskFault;
 pub use item_list::Bytes;
 pub use laws::block_total_is_the_sum_over_nodes;
-pub use mount_limits::{BLOCK_SIZE, MOST_BLOCKS, MOST_CHILDREN, MOST_NODES};
+pub use mount_limits::{BLOCK_SIZE, MAX_BLOCKS, MAX_CHILDREN, MAX_NODES};
 pub use node::{Body, StoredNode};
 pub use tree::DiskTree;

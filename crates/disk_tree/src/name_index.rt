@@ -6,7 +6,7 @@ ghost use Rattle.std.specs.Map.{keys_of, remove_entry};
 ghost use Rattle.std.specs.Ordering.{nat_cmp};
 ghost use Rattle.std.specs.BTreeMap.{is_at};
 ghost use Rattle.disk_tree.specs.Indexed.{AreBelow, oldest};
-ghost use Rattle.disk_tree.specs.NameIndex.{hash_of as hash, indexed};
+ghost use Rattle.disk_tree.specs.NameIndex.{hash_of as hash, indexed_entry};
 
 use item_list::Bytes;
 use number_map::RisingMap;
@@ -32,7 +32,7 @@ pub(crate) fn hash_of(name: &[u8]) -> u64
 
 // What the index has under the hash.
 pub(crate) fn under_hash(index: &Index, hash: u64) -> Option<(u64, u32)>
-    ensures { result ≡ indexed index.now.entries hash }
+    ensures { result ≡ indexed_entry index.now.entries hash }
 {
     match index.get(&hash) {
         Some(found) => Some(*found),
@@ -41,7 +41,7 @@ pub(crate) fn under_hash(index: &Index, hash: u64) -> Option<(u64, u32)>
 }
 
 // The place and the number of the oldest entry of this name, by a search from the oldest on.
-pub(crate) fn searched(order: &Order, name: &[u8]) -> Option<(u64, u32)>
+pub(crate) fn search_by_name(order: &Order, name: &[u8]) -> Option<(u64, u32)>
     ensures { result ≡ oldest order.now name.now }
 {
     'each: for (place, entry) in order.iter() {
@@ -79,9 +79,9 @@ pub(crate) fn drop_place(order: &mut Order, place: u64)
 // Puts a place and a number under the hash, replacing what the index had there. Returns whether it had
 // nothing there.
 pub(crate) fn add_hash(index: &mut Index, hash: u64, found: (u64, u32)) -> Result<bool, AllocError>
-    ensures lacked { IfOk result (λ alone. alone ≡ true → indexed index.old.entries hash ≡ None) }
-    ensures put { OnOk result ((other : ℕ) → indexed index.new.entries other
-        ≡ if nat_eq hash other then Some found else indexed index.old.entries other) }
+    ensures lacked { IfOk result (λ alone. alone ≡ true → indexed_entry index.old.entries hash ≡ None) }
+    ensures put { OnOk result ((other : ℕ) → indexed_entry index.new.entries other
+        ≡ if nat_eq hash other then Some found else indexed_entry index.old.entries other) }
     ensures kept { OnErr result (index.new.entries ≡ index.old.entries) }
 {
     let before = index.insert(hash, found)?;
@@ -90,8 +90,8 @@ pub(crate) fn add_hash(index: &mut Index, hash: u64, found: (u64, u32)) -> Resul
 
 // Removes what is under the hash.
 pub(crate) fn drop_hash(index: &mut Index, hash: u64)
-    ensures { (other : ℕ) → indexed index.new.entries other
-        ≡ if nat_eq hash other then None else indexed index.old.entries other }
+    ensures { (other : ℕ) → indexed_entry index.new.entries other
+        ≡ if nat_eq hash other then None else indexed_entry index.old.entries other }
 {
     index.remove(&hash);
 }

@@ -1,7 +1,7 @@
 //! A node as it is stored, and the changes of one node.
 ghost use Rattle.std.specs.Prelude.{◌≡◌, ◌<◌, ◌≤◌, ◌↔◌, length, IsOk, IsTrue, OnOk, OnErr};
 ghost use Rattle.std.specs.Borrow.{sem};
-ghost use Rattle.disk_tree.specs.Blocks.{grown, block_of};
+ghost use Rattle.disk_tree.specs.Blocks.{blocks_grown_to, block_of};
 ghost use Rattle.disk_tree.specs.Entries.{number_under, with_entry, without_entry};
 ghost use Rattle.disk_tree.specs.Nodes.{entries_of, blocks_of, size_of, with_entries};
 ghost use Rattle.disk_tree.specs.Nodes.{with_blocks, with_size, IsDir, IsFile};
@@ -35,7 +35,7 @@ pub enum Body {
 }
 
 impl Body {
-    ghost use Rattle.disk_tree.specs.BodyLends.{LendsBodyBlock};
+    ghost use Rattle.disk_tree.specs.BodyWrites.{WritesBodyBlock};
 
     /// Returns whether the body is a directory's.
     pub fn is_dir(&self) -> bool
@@ -120,7 +120,7 @@ impl Body {
 
     pub(crate) fn grow(&mut self, alloc: Global, count: usize) -> Result<(), AllocError>
         requires { IsFile self.old }
-        ensures grown { OnOk result (self.new ≡ with_blocks (grown count) self.old) }
+        ensures grown { OnOk result (self.new ≡ with_blocks (blocks_grown_to count) self.old) }
         ensures kept { OnErr result (self.new ≡ self.old) }
         ensures enough { count ≤ length (blocks_of self.old) → IsOk result }
     {
@@ -152,7 +152,7 @@ impl Body {
 
     pub(crate) fn block_mut(&mut self, index: usize) -> &mut [u8]
         requires { index < length (blocks_of self.old) }
-        ensures* writes_back { sem 𝓛 (LendsBodyBlock self.entry index result) }
+        ensures* writes_back { sem 𝓛 (WritesBodyBlock self.entry index result) }
         ensures value { result.now ≡ block_of (blocks_of self.old) index }
         ensures whole { length result.now ≡ BLOCK_SIZE }
     {

@@ -38,7 +38,7 @@ impl Model for DiskTree {
     ghost use Rattle.disk_tree.specs.contracts.node.StoredNode as stored;
     ghost use Rattle.disk_tree.specs.declared.node.StoredNode.{StoredNode as Stored};
     ghost use Rattle.disk_tree.specs.DiskTree.{block_total};
-    ghost use Rattle.mount_limits.specs.declared.TheConstants.{MOST_BLOCKS};
+    ghost use Rattle.mount_limits.specs.declared.TheConstants.{MAX_BLOCKS};
 
     ghost Value = { FinMap nat_cmp Stored };
 
@@ -46,7 +46,7 @@ impl Model for DiskTree {
 
     ghost view = { λ t. t.nodes };
 
-    ghost invariant = { λ t. (t.blocks ≡ block_total t.nodes) × (t.blocks ≤ MOST_BLOCKS) };
+    ghost invariant = { λ t. (t.blocks ≡ block_total t.nodes) × (t.blocks ≤ MAX_BLOCKS) };
 }
 
 impl DiskTree {

@@ -6,7 +6,7 @@ use Rattle.std.proofs.lemmas.List.Elements.{All-nil, All-cons}
 use Rattle.hex.specs.Hex.{IsBytes, encode_lower}
 use Rattle.text_words.specs.Numbers.{decimal_of}
 use Rattle.policy_ctx.specs.declared.policy.KeyId.{KeyId}
-use Rattle.mount_limits.specs.declared.TheConstants.{MOST_RAW_BYTES, MOST_WRITE_BYTES, MOST_CARRIED_BYTES}
+use Rattle.mount_limits.specs.declared.TheConstants.{MAX_RAW_BYTES, MAX_WRITE_BYTES, MAX_CARRIED_BYTES}
 use Rattle.mount_model.specs.declared.call.Op.{Op}
 use Rattle.mount_model.specs.declared.call.Op.TheVariants as op
 use Rattle.mount_model.specs.Carried.{IsPath}
@@ -21,8 +21,8 @@ use Rattle.reply_text.specs.Calls.{call_text, span_text, store_text}
 use Rattle.reply_text.specs.CallRange.{CallIsInRange}
 use Rattle.reply_text.proofs.FieldLemmas.{field_literal, IsField-word, IsField-record, IsField-path}
 use Rattle.entry_reader.specs.Fields.{number_in, zeros_in, id_in, path_in}
-use Rattle.entry_reader.specs.CallForms.{call_behind, call_form}
-use Rattle.entry_reader.specs.NamedCalls.{call_named}
+use Rattle.entry_reader.specs.CallForms.{call_after_name, call_form}
+use Rattle.entry_reader.specs.NamedCalls.{form_of_call}
 use Rattle.entry_reader.specs.PathForms.{no_nonce}
 use Rattle.entry_reader.specs.Typed.{CallIsTyped}
 use Rattle.entry_reader.proofs.WordLemmas.{IsWord, field_is_word, spaced, number_word, small_word, digits_word, one}
@@ -175,13 +175,13 @@ abbrev made_of : Op → List (List ℕ) → Option Op × List (List ℕ)
 made_of o rest = (Some o, rest)
 
 -- by its name
-named : (o made : Op) (rest : List (List ℕ)) → call_named (call_name o) (call_words o ++ rest) ≡ made_of made rest
+named : (o made : Op) (rest : List (List ℕ)) → form_of_call (call_name o) (call_words o ++ rest) ≡ made_of made rest
     → call_form (name_text (call_name o) ∷ (call_words o ++ rest)) ≡ made_of made rest
-named o made rest reads = ap (λ (n : Option CommandName). call_behind n (call_words o ++ rest)) (name_of-text (call_name o)) ∙ reads
+named o made rest reads = ap (λ (n : Option CommandName). call_after_name n (call_words o ++ rest)) (name_of-text (call_name o)) ∙ reads
 
 -- a call of a path alone
 of_path : (make : List (List ℕ) → Op) (o : Op) (path : List (List ℕ)) (rest : List (List ℕ)) → IsPath path
-    → call_named (call_name o) (call_words o ++ rest) ≡ made_of (make (path_in (path_text path))) rest
+    → form_of_call (call_name o) (call_words o ++ rest) ≡ made_of (make (path_in (path_text path))) rest
     → OpFits (make path) → call_text (make path) ≡ call_text o → CallRead o rest
 of_path make o path rest is reads fits same = record {
   made = make path;
@@ -192,7 +192,7 @@ of_path make o path rest is reads fits same = record {
 
 -- a call of an identifier alone
 of_id : (make : KeyId → Op) (o : Op) (id : KeyId) (rest : List (List ℕ)) → length id.0 ≡ 16 → IsBytes id.0
-    → call_named (call_name o) (call_words o ++ rest) ≡ made_of (make (id_in (encode_lower id.0))) rest
+    → form_of_call (call_name o) (call_words o ++ rest) ≡ made_of (make (id_in (encode_lower id.0))) rest
     → OpFits (make id) → call_text (make id) ≡ call_text o → CallRead o rest
 of_id make o id rest size bytes reads fits same = record {
   made = make id;
@@ -240,10 +240,10 @@ read_read handle offset len rest r = record {
 write_read : (handle offset : ℕ) (bytes : List ℕ) (rest : List (List ℕ)) → CallIsInRange (op.Write handle offset bytes) → OpFits (op.Write handle offset bytes)
     → CallRead (op.Write handle offset bytes) rest
 write_read handle offset bytes rest r h =
-    let zeros = zeros_fit MOST_WRITE_BYTES bytes (omega arith) h.1 in
-    let made : List ℕ = zeros_in MOST_WRITE_BYTES (decimal_of (length bytes)) in
+    let zeros = zeros_fit MAX_WRITE_BYTES bytes (omega arith) h.1 in
+    let made : List ℕ = zeros_in MAX_WRITE_BYTES (decimal_of (length bytes)) in
     let counted : length made ≡ length bytes = zeros.0 in
-    let few : length bytes ≤ MOST_WRITE_BYTES = h.1 in
+    let few : length bytes ≤ MAX_WRITE_BYTES = h.1 in
     record {
       made = op.Write handle offset made;
       reads = named (op.Write handle offset bytes) (op.Write handle offset made) rest
@@ -255,10 +255,10 @@ write_read handle offset bytes rest r h =
 store_read : (label : List ℕ) (expected : ℕ) (bytes : List ℕ) (rest : List (List ℕ)) → CallIsInRange (op.MetaStore label expected bytes) → IsBytes label
     → OpFits (op.MetaStore label expected bytes) → CallRead (op.MetaStore label expected bytes) rest
 store_read label expected bytes rest r t h =
-    let zeros = zeros_fit MOST_CARRIED_BYTES bytes (omega arith) h.1 in
-    let made : List ℕ = zeros_in MOST_CARRIED_BYTES (decimal_of (length bytes)) in
+    let zeros = zeros_fit MAX_CARRIED_BYTES bytes (omega arith) h.1 in
+    let made : List ℕ = zeros_in MAX_CARRIED_BYTES (decimal_of (length bytes)) in
     let counted : length made ≡ length bytes = zeros.0 in
-    let few : length bytes ≤ MOST_CARRIED_BYTES = h.1 in
+    let few : length bytes ≤ MAX_CARRIED_BYTES = h.1 in
     record {
       made = op.MetaStore label expected made;
       reads = named (op.MetaStore label expected bytes) (op.MetaStore label expected made) rest
@@ -269,10 +269,10 @@ store_read label expected bytes rest r t h =
 
 key_read : (raw : List ℕ) (rest : List (List ℕ)) → OpFits (op.AddKey raw) → CallRead (op.AddKey raw) rest
 key_read raw rest h =
-    let made : List ℕ = zeros_in MOST_RAW_BYTES (decimal_of (length raw)) in
-    let counted : length made ≡ length raw = (zeros_fit MOST_RAW_BYTES raw (omega arith) h.1).0 in
+    let made : List ℕ = zeros_in MAX_RAW_BYTES (decimal_of (length raw)) in
+    let counted : length made ≡ length raw = (zeros_fit MAX_RAW_BYTES raw (omega arith) h.1).0 in
     let some : 1 ≤ length raw = h.0 in
-    let few : length raw ≤ MOST_RAW_BYTES = h.1 in
+    let few : length raw ≤ MAX_RAW_BYTES = h.1 in
     record {
       made = op.AddKey made;
       reads = named (op.AddKey raw) (op.AddKey made) rest refl;

@@ -18,8 +18,8 @@ use Rattle.entry_reader.specs.declared.reader.LogEntry.{LogEntry}
 use Rattle.entry_reader.specs.Fields.{number_in, place_in}
 use Rattle.entry_reader.specs.ReplyForms.{reply_form}
 use Rattle.entry_reader.specs.Names.{name_text}
-use Rattle.entry_reader.specs.Guess.{entry_behind, entry_form, guess_of}
-use Rattle.entry_reader.specs.Reading.{IsEntry, IsLineOf, Keeps, TellsLine, ReadsBack}
+use Rattle.entry_reader.specs.Guess.{entry_after_call, entry_form, guess_of}
+use Rattle.entry_reader.specs.Reading.{IsEntry, IsLineOf, IsEntryIfLine, IsEntryOfLine, ReadsBack}
 use Rattle.reply_text.proofs.LineLemmas.{lines_tell}
 use Rattle.entry_reader.proofs.WordLemmas.{IsWord, field_is_word, spaced, spaced-append, words_of-spaced, without_last}
 use Rattle.entry_reader.proofs.BackLemmas.{number_back, place_back}
@@ -112,7 +112,7 @@ entry_read place e small is =
       made = made;
       reads =
           ap (λ (ws : List (List ℕ)). (entry_form ws).0) (line_words place e small is)
-          ∙ ap (λ (x : Option Op × List (List ℕ)). (entry_behind (place_in (decimal_of place)) (number_in (decimal_of e.who)) (number_in (decimal_of e.call.uid)) x.0 x.1).0) asked.reads
+          ∙ ap (λ (x : Option Op × List (List ℕ)). (entry_after_call (place_in (decimal_of place)) (number_in (decimal_of e.who)) (number_in (decimal_of e.call.uid)) x.0 x.1).0) asked.reads
           ∙ ap (λ (x : Reply × List (List ℕ)). Some (entry_at (place_in (decimal_of place)) (number_in (decimal_of e.who)) (number_in (decimal_of e.call.uid)) asked.made x.0)) replied
           ∙ ap (λ (n : ℕ). Some (entry_at n (number_in (decimal_of e.who)) (number_in (decimal_of e.call.uid)) asked.made e.reply)) (place_back place small)
           ∙ ap₂ (λ (w u : ℕ). Some (entry_at place w u asked.made e.reply)) (number_back e.who is.in_range.who) (number_back e.call.uid is.in_range.uid);
@@ -158,17 +158,17 @@ never_left line read place e small is same guessed =
       same ∙ told_line place e made.made.entry (sym made.tells) ∙ ap (λ (n : ℕ). entry_text n made.made.entry) (sym made.at),
     )
 
-pub kept_exactly : (line : List ℕ) (read : LogEntry) (kept : Option LogEntry) → guess_of line ≡ Some read → Keeps line read kept → TellsLine line kept
+pub kept_exactly : (line : List ℕ) (read : LogEntry) (kept : Option LogEntry) → guess_of line ≡ Some read → IsEntryIfLine line read kept → IsEntryOfLine line kept
 kept_exactly line read (Some x) guessed keeps = subst (IsLineOf line) (sym keeps.0) keeps.1
 kept_exactly line read None guessed keeps = λ place e small is same. keeps (never_left line read place e small is same guessed)
 
-pub kept_back : (line : List ℕ) (read : LogEntry) (kept : Option LogEntry) → guess_of line ≡ Some read → Keeps line read kept → ReadsBack line kept
+pub kept_back : (line : List ℕ) (read : LogEntry) (kept : Option LogEntry) → guess_of line ≡ Some read → IsEntryIfLine line read kept → ReadsBack line kept
 kept_back line read (Some x) guessed keeps =
     let right = subst (IsLineOf line) (sym keeps.0) keeps.1 in
     λ place e small is same. lines_tell x.place place x.entry e right.place small right.entry.in_range is.in_range (sym right.text ∙ same)
 kept_back line read None guessed keeps = λ place e small is same. absurd (keeps (never_left line read place e small is same guessed))
 
-pub kept_filled : (line : List ℕ) (read : LogEntry) (kept : Option LogEntry) → guess_of line ≡ Some read → Keeps line read kept
+pub kept_filled : (line : List ℕ) (read : LogEntry) (kept : Option LogEntry) → guess_of line ≡ Some read → IsEntryIfLine line read kept
     → IfSome kept (λ entry. guess_of line ≡ Some entry)
 kept_filled line read (Some x) guessed keeps = guessed ∙ ap Some (sym keeps.0)
 kept_filled line read None guessed keeps = tt

@@ -28,7 +28,7 @@ use Rattle.reply_text.proofs.FieldLemmas.{bit-small, IsField-word, IsField-bytes
 use Rattle.reply_text.proofs.ReplyLemmas.{IsField-state, IsField-kind}
 use Rattle.entry_reader.specs.Fields.{number_in, flag_in, users_in}
 use Rattle.entry_reader.specs.Names.{name_text, name_of, state_in, kind_in}
-use Rattle.entry_reader.specs.ReplyForms.{refused, reply_named, reply_behind, reply_form}
+use Rattle.entry_reader.specs.ReplyForms.{refused_form, form_of_reply, reply_after_name, reply_form}
 use Rattle.entry_reader.specs.Typed.{ReplyIsTyped}
 use Rattle.entry_reader.specs.declared.names.ReplyName.{ReplyName}
 use Rattle.entry_reader.specs.declared.names.ReplyName.TheVariants as name
@@ -247,7 +247,7 @@ flag_back name false = ap (λ (o : Option ℕ). option_map_or (λ b. b == 49) o 
 users_back : (n : ℕ) → n < 2 ^ 32 → users_in (codes "users=" ++ decimal_of n) ≡ n
 users_back n small = number_back n small
 
-refused_read : (refusal : Refusal) → RefusalIsInRange refusal → refused (refusal_words refusal) ≡ made_of (reply.Refused refusal)
+refused_read : (refusal : Refusal) → RefusalIsInRange refusal → refused_form (refusal_words refusal) ≡ made_of (reply.Refused refusal)
 refused_read (Changed version) h = ap (λ (n : ℕ). made_of (reply.Refused (Changed n))) (number_back version h)
 refused_read NoKey h = refl
 refused_read Access h = refl
@@ -267,7 +267,7 @@ refused_read NoSpace h = refl
 refused_read NoKeyClash h = refl
 refused_read NoMemory h = refl
 
-named : (r : Reply) → ReplyIsInRange r → ReplyIsTyped r → reply_named (reply_name r) (reply_words r) ≡ made_of r
+named : (r : Reply) → ReplyIsInRange r → ReplyIsTyped r → form_of_reply (reply_name r) (reply_words r) ≡ made_of r
 named (reply.Added id) h t = ap (λ (i : KeyId). made_of (reply.Added i)) (id_back id t h)
 named (reply.Removed others busy) h t = ap₂ (λ (o b : Bool). made_of (reply.Removed o b)) (flag_back (codes "others=") others) (flag_back (codes "busy=") busy)
 named (reply.Status state by_self users) h t =
@@ -290,4 +290,4 @@ named (reply.Stored version) h t = ap (λ (n : ℕ). made_of (reply.Stored n)) (
 named (reply.Refused refusal) h t = refused_read refusal h
 
 pub reply_read : (r : Reply) → ReplyIsInRange r → ReplyIsTyped r → reply_form (name_text (reply_name r) ∷ reply_words r) ≡ made_of r
-reply_read r h t = ap (λ (n : Option ReplyName). reply_behind n (reply_words r)) (name_of-text (reply_name r)) ∙ named r h t
+reply_read r h t = ap (λ (n : Option ReplyName). reply_after_name n (reply_words r)) (name_of-text (reply_name r)) ∙ named r h t

@@ -6,8 +6,8 @@ abbrev pub Form : Type 0 → Type 0
 Form A = List (List ℕ) → A × List (List ℕ)
 
 -- no further word
-abbrev pub says : {A : Type 0} → A → Form A
-says a = λ words. (a, words)
+abbrev pub accept_end : {A : Type 0} → A → Form A
+accept_end a = λ words. (a, words)
 
 -- one form, and then the next
 infixl 10 ◌>>=◌
@@ -20,7 +20,7 @@ word read = λ words. (read (unwrap_or (slice_get words 0) []), drop 1 words)
 
 -- one word, and what is made of its value
 abbrev pub only : {A B : Type 0} → (A → B) → (List ℕ → A) → Form B
-only make read = word read >>= λ a. says (make a)
+only make read = word read >>= λ a. accept_end (make a)
 
 -- a function that reads makes what the form makes, and leaves the words that the form leaves; out of memory
 -- is always possible

@@ -4,7 +4,7 @@ use Rattle.std.specs.Prelude.{ℕ, List, replicate}
 use Rattle.mount_model.specs.declared.call.Op.{Op}
 use Rattle.mount_model.specs.declared.call.Op.TheVariants as op
 use Rattle.percent_encoding.specs.Percent.{percent_decode}
-use Rattle.entry_reader.specs.Forms.{Form, says, ◌>>=◌, word, only}
+use Rattle.entry_reader.specs.Forms.{Form, accept_end, ◌>>=◌, word, only}
 use Rattle.entry_reader.specs.Fields.{number_in, policy_in, path_in}
 
 abbrev pub no_nonce : List ℕ
@@ -14,7 +14,7 @@ abbrev pub set_policy : Form Op
 set_policy = do
   path ← word path_in
   policy ← word policy_in
-  says (op.SetPolicy path policy no_nonce)
+  accept_end (op.SetPolicy path policy no_nonce)
 
 abbrev pub mkdir : Form Op
 mkdir = only (λ path. op.Mkdir path no_nonce) path_in
@@ -26,16 +26,16 @@ abbrev pub symlink : Form Op
 symlink = do
   path ← word path_in
   target ← word percent_decode
-  says (op.Symlink path target no_nonce)
+  accept_end (op.Symlink path target no_nonce)
 
 abbrev pub rename : Form Op
 rename = do
   old_path ← word path_in
   new_path ← word path_in
-  says (op.Rename old_path new_path)
+  accept_end (op.Rename old_path new_path)
 
 abbrev pub list : Form Op
 list = do
   path ← word path_in
   start ← word number_in
-  says (op.List path start)
+  accept_end (op.List path start)

@@ -23,14 +23,14 @@ pub record IsLineOf (line : List ℕ) (read : LogEntry) : Type 0 where
   pub text : line ≡ entry_text read.place read.entry
 
 -- an entry is returned if the line is its line, and otherwise none
-abbrev pub Keeps : List ℕ → LogEntry → Option LogEntry → Type 0
-Keeps line read (Some kept) = (kept ≡ read) × IsLineOf line read
-Keeps line read None = ¬ (Fits read.entry.call × (line ≡ entry_text read.place read.entry))
+abbrev pub IsEntryIfLine : List ℕ → LogEntry → Option LogEntry → Type 0
+IsEntryIfLine line read (Some kept) = (kept ≡ read) × IsLineOf line read
+IsEntryIfLine line read None = ¬ (Fits read.entry.call × (line ≡ entry_text read.place read.entry))
 
 -- what was read is an entry with this line; if nothing was, the line is that of no entry
-abbrev pub TellsLine : List ℕ → Option LogEntry → Type 0
-TellsLine line (Some read) = IsLineOf line read
-TellsLine line None = (place : ℕ) (e : MountEntry) → place < 2 ^ 64 → IsEntry e → line ≢ entry_text place e
+abbrev pub IsEntryOfLine : List ℕ → Option LogEntry → Type 0
+IsEntryOfLine line (Some read) = IsLineOf line read
+IsEntryOfLine line None = (place : ℕ) (e : MountEntry) → place < 2 ^ 64 → IsEntry e → line ≢ entry_text place e
 
 -- the line of any such entry is read, as the text of that entry
 abbrev pub ReadsBack : List ℕ → Option LogEntry → Type 0

@@ -7,9 +7,9 @@ ghost use Rattle.entry_reader.specs.NamedCalls as named;
 ghost use Rattle.entry_reader.specs.DataForms as on_data;
 ghost use Rattle.entry_reader.specs.PathForms as on_paths;
 
-use crate::fields::{id, number, path, policy, take_word, unescaped, zeros};
+use crate::fields::{id, number, path, policy, take_word, unescape_word, zeros};
 use mount_model::Op;
-use mount_model::limits::{MOST_CARRIED_BYTES, MOST_RAW_BYTES, MOST_WRITE_BYTES};
+use mount_model::limits::{MAX_CARRIED_BYTES, MAX_RAW_BYTES, MAX_WRITE_BYTES};
 use script_lang::{CommandName, Words};
 use std::alloc::{AllocError, Global};
 
@@ -33,11 +33,11 @@ fn read_named(
     name: CommandName,
     words: &mut Words<'_>,
 ) -> Result<Option<Op>, AllocError>
-    ensures { Makes result (named.call_named name words.old) words.new }
+    ensures { Makes result (named.form_of_call name words.old) words.new }
 {
     match name {
         CommandName::AddKey => {
-            zeros(alloc, words, MOST_RAW_BYTES).map(|raw| Some(Op::AddKey { raw }))
+            zeros(alloc, words, MAX_RAW_BYTES).map(|raw| Some(Op::AddKey { raw }))
         }
         CommandName::RemoveKey => Ok(Some(Op::RemoveKey { id: id(words) })),
         CommandName::RemoveKeyAll => Ok(Some(Op::RemoveKeyAll { id: id(words) })),
@@ -58,8 +58,8 @@ fn read_named(
         CommandName::Read => Ok(Some(read(words))),
         CommandName::Write => Ok(Some(write(alloc, words)?)),
         CommandName::DropCaches => Ok(Some(Op::DropCaches)),
-        CommandName::MetaGet => unescaped(alloc, words).map(|name| Some(Op::MetaLoad { name })),
-        CommandName::MetaPut => Ok(Some(meta_put(alloc, words)?)),
+        CommandName::MetaGet => unescape_word(alloc, words).map(|name| Some(Op::MetaLoad { name })),
+        CommandName::MetaPut => Ok(Some(meta_put_form(alloc, words)?)),
         CommandName::SetPolicyBytes
         | CommandName::Fill
         | CommandName::Protector
@@ -109,7 +109,7 @@ fn symlink(alloc: Global, words: &mut Words<'_>) -> Result<Op, AllocError>
     ensures { Makes result (on_paths.symlink words.old) words.new }
 {
     let path = path(alloc, words)?;
-    let target = unescaped(alloc, words)?;
+    let target = unescape_word(alloc, words)?;
     Ok(Op::Symlink {
         path,
         target,
@@ -141,7 +141,7 @@ fn close(words: &mut Words<'_>) -> Op
 }
 
 fn read(words: &mut Words<'_>) -> Op
-    ensures { on_data.read words.old ≡ (result, words.new) }
+    ensures { on_data.read_call_form words.old ≡ (result, words.new) }
 {
     let handle = number(words);
     let offset = number(words);
@@ -158,7 +158,7 @@ fn write(alloc: Global, words: &mut Words<'_>) -> Result<Op, AllocError>
 {
     let handle = number(words);
     let offset = number(words);
-    let bytes = zeros(alloc, words, MOST_WRITE_BYTES)?;
+    let bytes = zeros(alloc, words, MAX_WRITE_BYTES)?;
     Ok(Op::Write {
         handle,
         offset,
@@ -166,12 +166,12 @@ fn write(alloc: Global, words: &mut Words<'_>) -> Result<Op, AllocError>
     })
 }
 
-fn meta_put(alloc: Global, words: &mut Words<'_>) -> Result<Op, AllocError>
-    ensures { Makes result (on_data.meta_put words.old) words.new }
+fn meta_put_form(alloc: Global, words: &mut Words<'_>) -> Result<Op, AllocError>
+    ensures { Makes result (on_data.meta_put_form words.old) words.new }
 {
-    let name = unescaped(alloc, words)?;
+    let name = unescape_word(alloc, words)?;
     let expected = number(words);
-    let bytes = zeros(alloc, words, MOST_CARRIED_BYTES)?;
+    let bytes = zeros(alloc, words, MAX_CARRIED_BYTES)?;
     Ok(Op::MetaStore {
         name,
         expected,

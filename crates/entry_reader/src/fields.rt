@@ -82,7 +82,7 @@ pub(crate) fn bytes(alloc: Global, words: &mut Words<'_>) -> Result<Bytes, Alloc
 }
 
 // Reads bytes as a word.
-pub(crate) fn unescaped(alloc: Global, words: &mut Words<'_>) -> Result<Bytes, AllocError>
+pub(crate) fn unescape_word(alloc: Global, words: &mut Words<'_>) -> Result<Bytes, AllocError>
     ensures { Makes result (word percent_decode words.old) words.new }
 {
     unescape(alloc, take_word(words))

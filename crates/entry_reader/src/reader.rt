@@ -5,8 +5,8 @@ ghost use Rattle.std.specs.Prelude.{◌≡◌, ◌↔◌, ◌-◌, ◌<◌, ◌^
 ghost use Rattle.mount_model.specs.Fits.{Fits};
 ghost use Rattle.reply_text.specs.Log.{entry_text};
 ghost use Rattle.entry_reader.specs.Forms.{Makes};
-ghost use Rattle.entry_reader.specs.Guess.{entry_behind, guess_of};
-ghost use Rattle.entry_reader.specs.Reading.{IsEntry, Keeps, ReadsBack, TellsLine};
+ghost use Rattle.entry_reader.specs.Guess.{entry_after_call, guess_of};
+ghost use Rattle.entry_reader.specs.Reading.{IsEntry, IsEntryIfLine, ReadsBack, IsEntryOfLine};
 
 use crate::calls::read_call;
 use crate::fields::{number, place, take_word};
@@ -30,7 +30,7 @@ pub struct LogEntry {
 /// below 2^64 whose call a mount may be asked, with any reply. So each entry has only one line. What no
 /// line contains of a call is filled with zeros. `AllocError` is possible for any line.
 pub fn read_entry(alloc: Global, line: &[u8]) -> Result<Option<LogEntry>, AllocError>
-    ensures exact { IfOk result (λ read. TellsLine line.now read) }
+    ensures exact { IfOk result (λ read. IsEntryOfLine line.now read) }
     ensures reads_back { IfOk result (λ read. ReadsBack line.now read) }
     ensures filled { IfOk result (λ read. IfSome read (λ entry. guess_of line.now ≡ Some entry)) }
 {
@@ -45,7 +45,7 @@ pub fn read_entry(alloc: Global, line: &[u8]) -> Result<Option<LogEntry>, AllocE
 
 // Returns the entry if a mount may be asked its call and the line is its line.
 fn keep_if_right(alloc: Global, line: &[u8], read: LogEntry) -> Result<Option<LogEntry>, AllocError>
-    ensures { IfOk result (λ kept. Keeps line.now read kept) }
+    ensures { IfOk result (λ kept. IsEntryIfLine line.now read kept) }
 {
     has_types(&read);
     match is_line_of(alloc, line, &read) {
@@ -83,7 +83,7 @@ fn entry_of(
     call: Call,
     words: &mut Words<'_>,
 ) -> Result<Option<LogEntry>, AllocError>
-    ensures { Makes result (entry_behind place who call.uid (Some call.op) words.old) words.new }
+    ensures { Makes result (entry_after_call place who call.uid (Some call.op) words.old) words.new }
 {
     let _equals = take_word(words);
     let reply = read_reply(alloc, words)?;

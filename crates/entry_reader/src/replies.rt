@@ -6,7 +6,7 @@ ghost use Rattle.entry_reader.specs.Names as names;
 ghost use Rattle.entry_reader.specs.LongReplies as long;
 ghost use Rattle.entry_reader.specs.ReplyForms as forms;
 
-use crate::fields::{bytes, flag, id, number, policy, take_word, unescape, unescaped, users};
+use crate::fields::{bytes, flag, id, number, policy, take_word, unescape, unescape_word, users};
 use crate::names::{ReplyName, kind_in, refusal_in, state_in};
 use mount_model::{KeyState, NameList, NodeKind, Refusal, Reply};
 use script_lang::Words;
@@ -24,7 +24,7 @@ pub(crate) fn read_reply(alloc: Global, words: &mut Words<'_>) -> Result<Reply, 
 
 // Returns the reply that begins with this name, from the words after it.
 fn read_named(alloc: Global, name: ReplyName, words: &mut Words<'_>) -> Result<Reply, AllocError>
-    ensures { Makes result (forms.reply_named name words.old) words.new }
+    ensures { Makes result (forms.form_of_reply name words.old) words.new }
 {
     match name {
         ReplyName::Added => Ok(Reply::Added(id(words))),
@@ -36,7 +36,7 @@ fn read_named(alloc: Global, name: ReplyName, words: &mut Words<'_>) -> Result<R
         ReplyName::Stat => Ok(stat(words)),
         ReplyName::Handle => Ok(Reply::Opened(number(words))),
         ReplyName::Data => Ok(Reply::Content(bytes(alloc, words)?)),
-        ReplyName::Target => Ok(Reply::Target(unescaped(alloc, words)?)),
+        ReplyName::Target => Ok(Reply::Target(unescape_word(alloc, words)?)),
         ReplyName::Record => held(alloc, words),
         ReplyName::Stored => Ok(Reply::Stored(number(words))),
         ReplyName::Refused => Ok(refused(words)),
@@ -44,7 +44,7 @@ fn read_named(alloc: Global, name: ReplyName, words: &mut Words<'_>) -> Result<R
 }
 
 fn removed(words: &mut Words<'_>) -> Reply
-    ensures { long.removed words.old ≡ (result, words.new) }
+    ensures { long.removed_form words.old ≡ (result, words.new) }
 {
     let others = flag(words);
     let busy = flag(words);
@@ -69,13 +69,13 @@ fn listing(alloc: Global, words: &mut Words<'_>) -> Result<Reply, AllocError>
 {
     let _count = take_word(words);
     let more = flag(words);
-    let names = words_left(alloc, words)?;
+    let names = remaining_words(alloc, words)?;
     Ok(Reply::Names { names, more })
 }
 
 // Returns the bytes of each word that is left.
-fn words_left(alloc: Global, words: &mut Words<'_>) -> Result<NameList, AllocError>
-    ensures { Makes result (long.words_left words.old) words.new }
+fn remaining_words(alloc: Global, words: &mut Words<'_>) -> Result<NameList, AllocError>
+    ensures { Makes result (long.remaining_words words.old) words.new }
 {
     let mut names = NameList::new(alloc);
     'words: while let Some(word) = words.next() {
@@ -103,7 +103,7 @@ fn stat(words: &mut Words<'_>) -> Reply
 }
 
 fn held(alloc: Global, words: &mut Words<'_>) -> Result<Reply, AllocError>
-    ensures { Makes result (long.held words.old) words.new }
+    ensures { Makes result (long.held_form words.old) words.new }
 {
     let version = number(words);
     let bytes = bytes(alloc, words)?;
@@ -111,15 +111,15 @@ fn held(alloc: Global, words: &mut Words<'_>) -> Result<Reply, AllocError>
 }
 
 fn refused(words: &mut Words<'_>) -> Reply
-    ensures { forms.refused words.old ≡ (result, words.new) }
+    ensures { forms.refused_form words.old ≡ (result, words.new) }
 {
     let why = take_word(words);
-    Reply::Refused(refusal_behind(why, words))
+    Reply::Refused(refusal_after_name(why, words))
 }
 
 // Returns the refusal of this word, with the version after it if it has one.
-fn refusal_behind(why: &[u8], words: &mut Words<'_>) -> Refusal
-    ensures { forms.refusal_behind why.now words.old ≡ (result, words.new) }
+fn refusal_after_name(why: &[u8], words: &mut Words<'_>) -> Refusal
+    ensures { forms.refusal_after_name why.now words.old ≡ (result, words.new) }
 {
     if why == b"changed".as_slice() {
         let version = number(words);

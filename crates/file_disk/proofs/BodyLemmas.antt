@@ -13,7 +13,7 @@ use Rattle.data_crypt.proofs.ContentsLemmas.{length-blocks_by}
 use Rattle.data_crypt.proofs.ChainLemmas.{stored_written}
 use Rattle.disk_tree.specs.Blocks.{zero_block}
 use Rattle.disk_tree.specs.declared.node.Body.TheVariants.{File}
-use Rattle.file_disk.specs.Bodies.{file_body, end_block, blocks_with, body_written}
+use Rattle.file_disk.specs.Bodies.{file_body, end_block, blocks_with, body_after_write}
 
 with_none : (at : ℕ) (contents : List ℕ) → with_bytes at [] contents ≡ contents
 unfolding with_bytes
@@ -44,7 +44,7 @@ module _ (seal : Option Seal) (at : ℕ) (bytes contents : List ℕ) (key : IsKe
 
 pub writes_give : (seal : Option Seal) (at : ℕ) (bytes contents : List ℕ) → IsKeyOfBytes seal
     → AreBytes contents →
-    body_written seal at bytes (file_body seal contents) ≡ file_body seal (with_bytes at bytes contents)
+    body_after_write seal at bytes (file_body seal contents) ≡ file_body seal (with_bytes at bytes contents)
 writes_give seal at [] contents key are = ap (file_body seal) (sym (with_none at contents))
 writes_give seal at (b ∷ bs) contents key are =
     let some : 0 < length (b ∷ bs) = omega arith in

@@ -8,7 +8,7 @@ use Rattle.byte_words.specs.Contents.{spliced}
 use Rattle.data_crypt.specs.Blocks.{Seal, read_block, stored_block}
 use Rattle.data_crypt.specs.Parts.{block_with, place_in, rewritten}
 use Rattle.data_crypt.proofs.ContentsLemmas.{length-read_block}
-use Rattle.file_disk.specs.Bodies.{covers_block, stored_anew}
+use Rattle.file_disk.specs.Bodies.{covers_block, rewritten_block}
 
 -- a piece that is as long as the list leaves nothing of it
 spliced_all : (xs piece : List ℕ) → length xs ≤ length piece → spliced xs 0 piece ≡ piece
@@ -61,7 +61,7 @@ length-before seal false j block size = size
 module _ (seal : Option Seal) (had at : ℕ) (bytes : List ℕ) (j : ℕ) (block : List ℕ) where
   -- a block that was there is read
   pub anew_read : j < had → stored_block seal j (block_with at bytes j (read_block seal j block))
-      ≡ stored_anew seal had at bytes j block
+      ≡ rewritten_block seal had at bytes j block
   unfolding rewritten
   anew_read low =
       ap (λ b. stored_block seal j (block_with at bytes j (cond b (read_block seal j block) block)))
@@ -69,7 +69,7 @@ module _ (seal : Option Seal) (had at : ℕ) (bytes : List ℕ) (j : ℕ) (block
 
   -- a new one is not
   pub anew_new : had ≤ j → stored_block seal j (block_with at bytes j block)
-      ≡ stored_anew seal had at bytes j block
+      ≡ rewritten_block seal had at bytes j block
   unfolding rewritten
   anew_new past =
       ap (λ b. stored_block seal j (block_with at bytes j (cond b (read_block seal j block) block)))
@@ -77,7 +77,7 @@ module _ (seal : Option Seal) (had at : ℕ) (bytes : List ℕ) (j : ℕ) (block
 
   -- and one that the bytes cover need not be
   pub anew_covered : covers_block at (length bytes) j ≡ true → length block ≡ 4096
-      → stored_block seal j (block_with at bytes j block) ≡ stored_anew seal had at bytes j block
+      → stored_block seal j (block_with at bytes j block) ≡ rewritten_block seal had at bytes j block
   unfolding rewritten
   anew_covered covers size =
       let (begins, reaches) = covered_part at (length bytes) j covers in

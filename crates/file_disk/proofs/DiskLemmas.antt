@@ -6,7 +6,7 @@ use Rattle.number_map.specs.Numbered.{get, changed}
 use Rattle.number_map.proofs.NumberedLemmas.{changed_here}
 use Rattle.data_crypt.specs.Parts.{edited}
 use Rattle.data_crypt.proofs.ChainLemmas.{edited_none, edited_more, length-edited}
-use Rattle.disk_tree.specs.Blocks.{block_of, grown, with_block, written, zero_block}
+use Rattle.disk_tree.specs.Blocks.{block_of, blocks_grown_to, with_block, written_over_front, zero_block}
 use Rattle.disk_tree.specs.Nodes.{IsFile, blocks_of, size_of, on_body, with_blocks}
 use Rattle.disk_tree.specs.DiskTree.{Disk, IsFileAt, of_node, blocks_in, size_in, file_blocks, file_size}
 use Rattle.disk_tree.specs.declared.node.StoredNode.{StoredNode}
@@ -65,18 +65,18 @@ module _ (g : List (List ℕ) → List (List ℕ)) where
 
 -- a file that grows has `end` blocks or more
 pub grown_there : (disk : Disk) (file end : ℕ) → IsFileAt disk file
-    → end ≤ length (file_blocks (changed disk file (on_body (with_blocks (grown end)))) file)
+    → end ≤ length (file_blocks (changed disk file (on_body (with_blocks (blocks_grown_to end)))) file)
 grown_there disk file end is =
-    let all : length (file_blocks (changed disk file (on_body (with_blocks (grown end)))) file)
+    let all : length (file_blocks (changed disk file (on_body (with_blocks (blocks_grown_to end)))) file)
     ≡ length (file_blocks disk file) + (end - length (file_blocks disk file))
-    = ap length (file_changed (grown end) disk file is)
+    = ap length (file_changed (blocks_grown_to end) disk file is)
     ∙ length-append (file_blocks disk file) (replicate (end - length (file_blocks disk file)) zero_block)
     ∙ ap (λ n. length (file_blocks disk file) + n)
     (length-replicate (end - length (file_blocks disk file)) zero_block) in
     omega arith
 
 -- what a whole block that is written over another leaves
-pub written_whole : (block w : List ℕ) → length block ≡ length w → written block w ≡ w
+pub written_whole : (block w : List ℕ) → length block ≡ length w → written_over_front block w ≡ w
 written_whole block w same =
     ap (λ rest. take (length block) (w ++ rest)) (drop_all (length w) block (omega arith))
     ∙ ap (λ xs. take (length block) xs) (append-nil w) ∙ take_all (length block) w (omega arith)

@@ -21,7 +21,7 @@ use Rattle.disk_tree.specs.Nodes.{blocks_of, size_of}
 use Rattle.disk_tree.specs.declared.node.StoredNode.{StoredNode}
 use Rattle.disk_tree.specs.declared.node.Body.{Body}
 use Rattle.file_disk.specs.Bodies.{file_body}
-use Rattle.file_disk.specs.Lent.{IsStored, whole_size}
+use Rattle.file_disk.specs.Pending.{IsStored, whole_size}
 
 -- ---- side by side
 

@@ -4,10 +4,10 @@ use Rattle.std.specs.Int.{div_ceil}
 use Rattle.number_map.specs.Numbered.{changed}
 use Rattle.data_crypt.specs.Blocks.{Seal, read_block, stored_block, stored_blocks}
 use Rattle.data_crypt.specs.Parts.{edited, rewritten}
-use Rattle.disk_tree.specs.Blocks.{grown}
+use Rattle.disk_tree.specs.Blocks.{blocks_grown_to}
 use Rattle.disk_tree.specs.Nodes.{size_of, on_body, with_blocks, with_size}
 use Rattle.disk_tree.specs.DiskTree.{Disk, block_total, file_blocks}
-use Rattle.mount_limits.specs.declared.TheConstants.{BLOCK_SIZE, MOST_BLOCKS}
+use Rattle.mount_limits.specs.declared.TheConstants.{BLOCK_SIZE, MAX_BLOCKS}
 use Rattle.disk_tree.specs.declared.node.Body.{Body}
 use Rattle.disk_tree.specs.declared.node.Body.TheVariants.{File}
 
@@ -24,12 +24,12 @@ end_block at bytes = div_ceil (at + length bytes) BLOCK_SIZE
 unfoldable pub blocks_with : Option Seal → ℕ → List ℕ → List (List ℕ) → List (List ℕ)
 blocks_with seal at bytes blocks =
     edited (rewritten (stored_block seal) (read_block seal) (length blocks) at bytes)
-    (min (length blocks) (at / BLOCK_SIZE)) (end_block at bytes) (grown (end_block at bytes) blocks)
+    (min (length blocks) (at / BLOCK_SIZE)) (end_block at bytes) (blocks_grown_to (end_block at bytes) blocks)
 
 -- the body after a write; without bytes nothing changes
-abbrev pub body_written : Option Seal → ℕ → List ℕ → Body → Body
-body_written seal at [] body = body
-body_written seal at (b ∷ bs) body =
+abbrev pub body_after_write : Option Seal → ℕ → List ℕ → Body → Body
+body_after_write seal at [] body = body
+body_after_write seal at (b ∷ bs) body =
     with_size (max (size_of body) (at + length (b ∷ bs))) (with_blocks (blocks_with seal at (b ∷ bs)) body)
 
 -- the blocks that all files would have after a write
@@ -38,15 +38,15 @@ blocks_after disk file at bytes = block_total disk + (end_block at bytes - lengt
 
 -- they would be more than all files may have
 abbrev pub ExceedsDisk : Disk → ℕ → ℕ → List ℕ → Type 0
-ExceedsDisk disk file at bytes = MOST_BLOCKS < blocks_after disk file at bytes
+ExceedsDisk disk file at bytes = MAX_BLOCKS < blocks_after disk file at bytes
 
 -- the disk after a write: this file's body is changed
-abbrev pub disk_written : Disk → ℕ → Option Seal → ℕ → List ℕ → Disk
-disk_written disk file seal at bytes = changed disk file (on_body (body_written seal at bytes))
+abbrev pub disk_after_write : Disk → ℕ → Option Seal → ℕ → List ℕ → Disk
+disk_after_write disk file seal at bytes = changed disk file (on_body (body_after_write seal at bytes))
 
 -- block j stored again with its part of the bytes, if the file had `had` blocks before
-abbrev pub stored_anew : Option Seal → ℕ → ℕ → List ℕ → ℕ → List ℕ → List ℕ
-stored_anew seal had at bytes j block = rewritten (stored_block seal) (read_block seal) had at bytes j block
+abbrev pub rewritten_block : Option Seal → ℕ → ℕ → List ℕ → ℕ → List ℕ → List ℕ
+rewritten_block seal had at bytes j block = rewritten (stored_block seal) (read_block seal) had at bytes j block
 
 -- whether `count` bytes that are written from byte `at` on cover all of block j
 abbrev pub covers_block : ℕ → ℕ → ℕ → Bool
@@ -55,4 +55,4 @@ covers_block at count j = nat_le at (BLOCK_SIZE * j) && nat_le (BLOCK_SIZE * j +
 -- some blocks of the file stored again
 abbrev pub blocks_rewritten : Disk → ℕ → Option Seal → ℕ → ℕ → List ℕ → ℕ → ℕ → Disk
 blocks_rewritten disk file seal had at bytes first end =
-    changed disk file (on_body (with_blocks (edited (stored_anew seal had at bytes) first end)))
+    changed disk file (on_body (with_blocks (edited (rewritten_block seal had at bytes) first end)))

@@ -14,6 +14,6 @@ seal_of None = None
 seal_of (Some key) = Some (key_seal key)
 
 -- the same for the key of a pending read, in a box
-abbrev pub lent_seal : Option (Box ContentsKey Global) → Option Seal
-lent_seal None = None
-lent_seal (Some key) = Some (key_seal key.value)
+abbrev pub pending_seal : Option (Box ContentsKey Global) → Option Seal
+pending_seal None = None
+pending_seal (Some key) = Some (key_seal key.value)

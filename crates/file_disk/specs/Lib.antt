@@ -1,4 +1,4 @@
 pub mod Keys
 pub mod Bodies
-pub mod Lent
+pub mod Pending
 pub mod Laws

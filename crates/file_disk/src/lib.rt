@@ -2,18 +2,18 @@
 //! two halves.
 #![tactic(auto)]
 
+mod cipher_space;
 mod key;
 mod laws;
-mod lent;
+mod pending;
 mod read;
-mod rooms;
 mod write;
 
 pub use disk_tree::{DiskFault, DiskTree};
 pub use key::ContentsKey;
 pub use laws::writes_give_the_contents;
-pub use lent::LentRead;
-pub use mount_limits::{MOST_FILE_BYTES, MOST_READ_BYTES};
+pub use mount_limits::{MAX_FILE_BYTES, MAX_READ_BYTES};
+pub use pending::PendingRead;
 pub use policy_ctx::Unit;
 pub use read::{begin_read, finish_read};
 pub use write::write_file;

@@ -6,16 +6,16 @@ ghost use Rattle.data_crypt.specs.Ciphers.{seal_by};
 ghost use Rattle.data_crypt.specs.Laws.{IsKeyOfBytes};
 ghost use Rattle.data_crypt.specs.Parts.{blocks_joined, content_of, opened_text};
 ghost use Rattle.disk_tree.specs.DiskTree.{file_blocks, file_size};
-ghost use Rattle.file_disk.specs.Keys.{lent_seal, seal_of};
-ghost use Rattle.file_disk.specs.Lent.{IsAt, IsCopied, IsOfPart, IsPart, part_len, whole_size};
+ghost use Rattle.file_disk.specs.Keys.{pending_seal, seal_of};
+ghost use Rattle.file_disk.specs.Pending.{IsAt, IsCopied, IsOfPart, IsPart, part_len, whole_size};
 
+use crate::cipher_space::{cipher_space_of_pending, fill_pending, wipe_key, wipe_pending};
 use crate::key::ContentsKey;
-use crate::lent::LentRead;
-use crate::rooms::{fill_lent, room_for_lent, wipe_key, wipe_lent};
+use crate::pending::PendingRead;
 use byte_words::slice_is_bytes;
 use data_crypt::{BLOCK_SIZE, FileCipher, read_block, wipe_cipher};
 use disk_tree::DiskTree;
-use mount_limits::MOST_READ_BYTES;
+use mount_limits::MAX_READ_BYTES;
 use std::alloc::{AllocError, Global};
 
 /// Copies exactly the stored blocks that contain the part asked for, with the key that they are encrypted
@@ -31,8 +31,8 @@ pub fn begin_read(
     key: &mut Option<ContentsKey>,
     offset: u32,
     len: u32,
-) -> Result<Option<LentRead>, AllocError>
-    requires { len ≤ MOST_READ_BYTES }
+) -> Result<Option<PendingRead>, AllocError>
+    requires { len ≤ MAX_READ_BYTES }
     ensures past { whole_size disk.now file ≤ offset → result ≡ Ok None }
     ensures none { len ≡ 0 → result ≡ Ok None }
     ensures some { offset < whole_size disk.now file → 0 < len → IfOk result (λ lent. IsSome lent) }
@@ -40,7 +40,7 @@ pub fn begin_read(
     ensures place { IfOk result (λ lent. IfSome lent (IsAt offset)) }
     ensures only { IfOk result (λ lent. IfSome lent IsOfPart) }
     ensures text { IfOk result (λ lent. IfSome lent (IsCopied disk.now file)) }
-    ensures key { IfOk result (λ lent. IfSome lent (λ read. lent_seal read.key ≡ seal_of key.old)) }
+    ensures key { IfOk result (λ lent. IfSome lent (λ read. pending_seal read.key ≡ seal_of key.old)) }
     ensures content { IfOk result (IsPart disk.now file (seal_of key.old) offset len) }
     ensures wiped { seal_of key.new ≡ wiped_seal (seal_of key.old) }
 {
@@ -57,8 +57,8 @@ fn copy_part(
     key: &Option<ContentsKey>,
     offset: u32,
     len: u32,
-) -> Result<Option<LentRead>, AllocError>
-    requires { len ≤ MOST_READ_BYTES }
+) -> Result<Option<PendingRead>, AllocError>
+    requires { len ≤ MAX_READ_BYTES }
     ensures past { whole_size disk.now file ≤ offset → result ≡ Ok None }
     ensures none { len ≡ 0 → result ≡ Ok None }
     ensures some { offset < whole_size disk.now file → 0 < len → IfOk result (λ lent. IsSome lent) }
@@ -66,7 +66,7 @@ fn copy_part(
     ensures place { IfOk result (λ lent. IfSome lent (IsAt offset)) }
     ensures only { IfOk result (λ lent. IfSome lent IsOfPart) }
     ensures text { IfOk result (λ lent. IfSome lent (IsCopied disk.now file)) }
-    ensures key { IfOk result (λ lent. IfSome lent (λ read. lent_seal read.key ≡ seal_of key.now)) }
+    ensures key { IfOk result (λ lent. IfSome lent (λ read. pending_seal read.key ≡ seal_of key.now)) }
     ensures content { IfOk result (IsPart disk.now file (seal_of key.now) offset len) }
 {
     let size = whole_size(disk, file);
@@ -79,7 +79,7 @@ fn copy_part(
     let count = (skip + len).div_ceil(BLOCK_SIZE as u32);
     let text = copy_blocks(disk, alloc, file, block, count)?;
     let key = copy_key(alloc, key)?;
-    Ok(Some(LentRead {
+    Ok(Some(PendingRead {
         key,
         block,
         text,
@@ -90,19 +90,19 @@ fn copy_part(
 
 /// Decrypts the text in place and cuts it to the content, which it returns. Allocates nothing. Wipes the
 /// key in its box, and its round keys in their buffer.
-pub fn finish_read(lent: LentRead) -> Vec<u8>
-    ensures { result.items ≡ content_of (lent_seal lent.key) lent.block lent.text.items lent.skip lent.len }
+pub fn finish_read(lent: PendingRead) -> Vec<u8>
+    ensures { result.items ≡ content_of (pending_seal lent.key) lent.block lent.text.items lent.skip lent.len }
 {
-    let LentRead {
+    let PendingRead {
         mut key,
         block,
         mut text,
         skip,
         len,
     } = lent;
-    let mut cipher = room_for_lent(&key);
-    fill_lent(&mut cipher, &key);
-    wipe_lent(&mut key);
+    let mut cipher = cipher_space_of_pending(&key);
+    fill_pending(&mut cipher, &key);
+    wipe_pending(&mut key);
     open_text(&cipher, block, text.as_mut_slice());
     wipe_cipher(&mut cipher);
     cut(&mut text, skip as usize, len as usize);
@@ -146,7 +146,7 @@ fn copy_key(
     alloc: Global,
     key: &Option<ContentsKey>,
 ) -> Result<Option<Box<ContentsKey>>, AllocError>
-    ensures same { IfOk result (λ copy. lent_seal copy ≡ seal_of key.now) }
+    ensures same { IfOk result (λ copy. pending_seal copy ≡ seal_of key.now) }
     ensures ranged { IsKeyOfBytes (seal_of key.now) }
 {
     match key {

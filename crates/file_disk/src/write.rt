@@ -3,15 +3,15 @@ ghost use Rattle.std.specs.Prelude.{◌≡◌, ◌+◌, ◌/◌, ◌<◌, ◌≤
 ghost use Rattle.data_crypt.specs.Blocks.{wiped_seal};
 ghost use Rattle.data_crypt.specs.Ciphers.{seal_by};
 ghost use Rattle.disk_tree.specs.DiskTree.{IsFileAt, file_blocks};
-ghost use Rattle.file_disk.specs.Bodies.{ExceedsDisk, blocks_rewritten, covers_block, disk_written, end_block};
-ghost use Rattle.file_disk.specs.Bodies.{stored_anew};
+ghost use Rattle.file_disk.specs.Bodies.{ExceedsDisk, blocks_rewritten, covers_block, disk_after_write, end_block};
+ghost use Rattle.file_disk.specs.Bodies.{rewritten_block};
 ghost use Rattle.file_disk.specs.Keys.{seal_of};
 
+use crate::cipher_space::{cipher_space, fill, wipe_key};
 use crate::key::ContentsKey;
-use crate::rooms::{fill, room_for, wipe_key};
 use data_crypt::{BLOCK_SIZE, FileCipher, put_part, read_block, store_block, wipe_cipher};
 use disk_tree::{DiskFault, DiskTree};
-use mount_limits::MOST_FILE_BYTES;
+use mount_limits::MAX_FILE_BYTES;
 use std::alloc::Global;
 
 /// Writes the bytes into the file from byte `offset` on. A gap before them is zeros, encrypted like the
@@ -30,8 +30,8 @@ pub fn write_file(
     bytes: &[u8],
 ) -> Result<(), DiskFault>
     requires file { IsFileAt disk.old file }
-    requires fits { offset + length bytes.now ≤ MOST_FILE_BYTES }
-    ensures written { OnOk result (disk.new ≡ disk_written disk.old file (seal_of key.old) offset bytes.now) }
+    requires fits { offset + length bytes.now ≤ MAX_FILE_BYTES }
+    ensures written { OnOk result (disk.new ≡ disk_after_write disk.old file (seal_of key.old) offset bytes.now) }
     ensures kept { OnErr result (disk.new ≡ disk.old) }
     ensures empty { length bytes.now ≡ 0 → IsOk result }
     ensures inside { end_block offset bytes.now ≤ length (file_blocks disk.old file) → IsOk result }
@@ -56,8 +56,8 @@ fn write_under(
     bytes: &[u8],
 ) -> Result<(), DiskFault>
     requires file { IsFileAt disk.old file }
-    requires fits { offset + length bytes.now ≤ MOST_FILE_BYTES }
-    ensures written { OnOk result (disk.new ≡ disk_written disk.old file (seal_of key.now) offset bytes.now) }
+    requires fits { offset + length bytes.now ≤ MAX_FILE_BYTES }
+    ensures written { OnOk result (disk.new ≡ disk_after_write disk.old file (seal_of key.now) offset bytes.now) }
     ensures kept { OnErr result (disk.new ≡ disk.old) }
     ensures empty { length bytes.now ≡ 0 → IsOk result }
     ensures inside { end_block offset bytes.now ≤ length (file_blocks disk.old file) → IsOk result }
@@ -74,7 +74,7 @@ fn write_under(
     let end = size.div_ceil(BLOCK_SIZE as u32);
     match disk.grow(alloc, file, end) {
         Ok(()) => {
-            let mut cipher = room_for(key);
+            let mut cipher = cipher_space(key);
             fill(&mut cipher, key);
             rewrite_blocks(disk, file, &cipher, had, end, offset, bytes);
             wipe_cipher(&mut cipher);
@@ -122,7 +122,7 @@ fn rewrite_block(
 )
     requires block_size { length block.old ≡ BLOCK_SIZE }
     requires near { index < 2 ^ 20 }
-    ensures { block.new ≡ stored_anew (seal_by cipher.now) had offset bytes.now index block.old }
+    ensures { block.new ≡ rewritten_block (seal_by cipher.now) had offset bytes.now index block.old }
 {
     if (index as usize) < had && !covers_block(index, offset, bytes.len()) {
         read_block(cipher, index, block);

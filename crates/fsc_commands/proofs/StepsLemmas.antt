@@ -4,7 +4,7 @@ use Rattle.std.proofs.lemmas.List.{map-append}
 use Rattle.mount_model.specs.History.{History, MountEntry}
 use Rattle.mount_model.specs.declared.reply.Reply.{Reply}
 use Rattle.mount_model.specs.Port.{PlacedCalls}
-use Rattle.reply_text.specs.Shown.{PlacedShown, shown_entry, shown_calls}
+use Rattle.reply_text.specs.Logged.{PlacedLogged, logged_entry, logged_calls}
 use Rattle.call_history.specs.Entries as entries
 use Rattle.call_history.specs.declared.entry.Entry.{Entry}
 use Rattle.call_history.specs.Placed.{entries_of}
@@ -25,22 +25,22 @@ names_in-append {C} placed made =
 
 -- ---- the shown entries of calls
 
-pub shown_calls-append : (es fs : PlacedCalls) → shown_calls (es ++ fs) ≡ shown_calls es ++ shown_calls fs
-shown_calls-append es fs = map-append (λ (x : ℕ × MountEntry). (x.0, shown_entry x.1)) es fs
+pub logged_calls-append : (es fs : PlacedCalls) → logged_calls (es ++ fs) ≡ logged_calls es ++ logged_calls fs
+logged_calls-append es fs = map-append (λ (x : ℕ × MountEntry). (x.0, logged_entry x.1)) es fs
 
 -- what grew twice grew by the shown entries of all calls
-pub grown_twice : (old middle new : PlacedShown) (made more : PlacedCalls) → middle ≡ old ++ shown_calls made → new ≡ middle ++ shown_calls more
-    → new ≡ old ++ shown_calls (made ++ more)
+pub grown_twice : (old middle new : PlacedLogged) (made more : PlacedCalls) → middle ≡ old ++ logged_calls made → new ≡ middle ++ logged_calls more
+    → new ≡ old ++ logged_calls (made ++ more)
 grown_twice old middle new made more first second =
-    second ∙ ap (λ l. l ++ shown_calls more) first ∙ append_assoc old (shown_calls made) (shown_calls more)
-    ∙ ap (λ l. old ++ l) (sym (shown_calls-append made more))
+    second ∙ ap (λ l. l ++ logged_calls more) first ∙ append_assoc old (logged_calls made) (logged_calls more)
+    ∙ ap (λ l. old ++ l) (sym (logged_calls-append made more))
 
 -- they have the same last names
-pub names_from-shown : (names : List (List ℕ)) (placed : PlacedCalls) → names_from names (entries_of (shown_calls placed)) ≡ names_from names (entries_of placed)
+pub names_from-shown : (names : List (List ℕ)) (placed : PlacedCalls) → names_from names (entries_of (logged_calls placed)) ≡ names_from names (entries_of placed)
 names_from-shown names [] = refl
 names_from-shown names (x ∷ xs) = names_from-shown (names_after names x.1.reply) xs
 
-pub names_in-shown : (placed : PlacedCalls) → names_in (shown_calls placed) ≡ names_in placed
+pub names_in-shown : (placed : PlacedCalls) → names_in (logged_calls placed) ≡ names_in placed
 names_in-shown placed = names_from-shown [] placed
 
 -- two runs, one after the other

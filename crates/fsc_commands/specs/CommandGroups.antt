@@ -14,13 +14,13 @@ CarriesBytes (verb.MetaPut name expected bytes) = ⊤
 CarriesBytes other = ⊥
 
 -- one that carries a path and a nonce of its own
-abbrev pub DrawsNonce : Verb → Type 0
-DrawsNonce (verb.SetPolicy path key settings) = ⊤
-DrawsNonce (verb.SetPolicyBytes path policy) = ⊤
-DrawsNonce (verb.Mkdir path) = ⊤
-DrawsNonce (verb.Create path) = ⊤
-DrawsNonce (verb.Symlink path target) = ⊤
-DrawsNonce other = ⊥
+abbrev pub DerivesNonce : Verb → Type 0
+DerivesNonce (verb.SetPolicy path key settings) = ⊤
+DerivesNonce (verb.SetPolicyBytes path policy) = ⊤
+DerivesNonce (verb.Mkdir path) = ⊤
+DerivesNonce (verb.Create path) = ⊤
+DerivesNonce (verb.Symlink path target) = ⊤
+DerivesNonce other = ⊥
 
 -- one that carries a path, and no nonce
 abbrev pub NamesPath : Verb → Type 0

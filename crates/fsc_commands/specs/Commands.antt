@@ -24,9 +24,9 @@ abbrev pub AnyFits : Option Op → Type 0
 AnyFits asked = IfSome asked OpFits
 
 -- there is a call, and it carries a path or bytes, so that making it may run out of memory
-abbrev pub MayWantMemory : Option Op → Type 0
-MayWantMemory None = ⊥
-MayWantMemory (Some asked) = IsTrue (carries_bytes asked)
+abbrev pub MayTakeMemory : Option Op → Type 0
+MayTakeMemory None = ⊥
+MayTakeMemory (Some asked) = IsTrue (carries_bytes asked)
 
 -- the steps of a single call, which has no outcome, and those of a session's work; a pause is done at once,
 -- without a call and without an outcome

@@ -1,8 +1,8 @@
 pub mod CommandGroups
 pub mod Commands
 pub mod CommandSteps
-pub mod Made
-pub mod Meant
+pub mod MadeCalls
+pub mod References
 pub mod Opening
 pub mod PolicyKeySteps
 pub mod PolicySteps
@@ -10,6 +10,6 @@ pub mod ProtectorSteps
 pub mod Stars
 pub mod Steps
 pub mod Tasks
-pub mod Wiped
+pub mod Wiping
 pub mod Callers
 pub mod Work

@@ -5,31 +5,31 @@ use Rattle.script_words.specs.Records.{record_name}
 use Rattle.script_words.specs.declared.secrets.Secret.{Secret}
 use Rattle.script_words.specs.declared.record_words.Record.{Record}
 use Rattle.script_words.specs.declared.record_words.Record.TheVariants.{Protector, Policy}
-use Rattle.session_records.specs.declared.loaded.LoadedPolicy.{LoadedPolicy}
-use Rattle.session_records.specs.declared.opened.OpenedPolicy.{OpenedPolicy}
-use Rattle.session_records.specs.declared.opened.OpenedProtector.{OpenedProtector}
-use Rattle.session_records.specs.declared.outcomes.Wanted.TheVariants as wanted
-use Rattle.session_records.specs.Records.{protector_opened, policy_opened}
-use Rattle.session_records.specs.LoadedRecords.{policy_loaded}
+use Rattle.session_records.specs.declared.loading.LoadedPolicy.{LoadedPolicy}
+use Rattle.session_records.specs.declared.opening.OpenedPolicy.{OpenedPolicy}
+use Rattle.session_records.specs.declared.opening.OpenedProtector.{OpenedProtector}
+use Rattle.session_records.specs.declared.outcomes.ExpectedReply.TheVariants as wanted
+use Rattle.session_records.specs.Records.{unwrapped_protector, opened_policy}
+use Rattle.session_records.specs.LoadedRecords.{loaded_policy}
 use Rattle.fsc_commands.specs.CommandSteps.{CommandSteps, asking, when_ok, last_call}
 
 -- the policy of this label is loaded
 abbrev pub loading_policy : ℕ → ℕ → List ℕ → (LoadedPolicy → CommandSteps) → CommandSteps
 loading_policy caller uid label next =
     asking caller uid (MetaLoad (record_name (Policy label)))
-    (λ reply. when_ok (policy_loaded label reply) next)
+    (λ reply. when_ok (loaded_policy label reply) next)
 
 -- the protector of this label is loaded, and opened with a secret
 abbrev pub opening_protector : ℕ → ℕ → List ℕ → Secret → (OpenedProtector → CommandSteps) → CommandSteps
 opening_protector caller uid label secret next =
     asking caller uid (MetaLoad (record_name (Protector label)))
-    (λ reply. when_ok (protector_opened label secret reply) next)
+    (λ reply. when_ok (unwrapped_protector label secret reply) next)
 
 -- the policy of this label is loaded, and opened through the protector of another label, with its key
 abbrev pub opening_policy : ℕ → ℕ → List ℕ → List ℕ → List ℕ → (OpenedPolicy → CommandSteps) → CommandSteps
 opening_policy caller uid label protector key next =
     asking caller uid (MetaLoad (record_name (Policy label)))
-    (λ reply. when_ok (policy_opened label protector key reply) next)
+    (λ reply. when_ok (opened_policy label protector key reply) next)
 
 -- the last call stores a record in place of the expected version; 0 means none
 abbrev pub storing : ℕ → ℕ → Record → ℕ → List ℕ → CommandSteps

@@ -8,31 +8,31 @@ use Rattle.protector_meta.specs.PolicyText.{policy_text}
 use Rattle.script_words.specs.declared.path.ScriptPart.{ScriptPart}
 use Rattle.script_words.specs.declared.record_words.Record.TheVariants.{Policy}
 use Rattle.script_lang.specs.declared.verb.Settings.{Settings}
-use Rattle.session_records.specs.declared.outcomes.Wanted.{Wanted}
-use Rattle.session_records.specs.declared.outcomes.Wanted.TheVariants as wanted
-use Rattle.session_records.specs.Draws.{nonce_drawn}
+use Rattle.session_records.specs.declared.outcomes.ExpectedReply.{ExpectedReply}
+use Rattle.session_records.specs.declared.outcomes.ExpectedReply.TheVariants as wanted
+use Rattle.session_records.specs.Derivations.{derived_nonce}
 use Rattle.session_records.specs.PolicyRecords.{policy_without}
 use Rattle.session_records.specs.PolicyOptions.{node_policy, with_options}
 use Rattle.fsc_commands.specs.declared.policies.AskedOfKey.{AskedOfKey}
 use Rattle.fsc_commands.specs.declared.policies.AskedOfKey.TheVariants.{Removal, Status}
 use Rattle.fsc_commands.specs.CommandSteps.{CommandSteps, when_ok, last_call}
 use Rattle.fsc_commands.specs.Opening.{loading_policy, storing}
-use Rattle.fsc_commands.specs.Stars.{path_meant}
+use Rattle.fsc_commands.specs.Stars.{resolved_path}
 
 -- the call that is made for a policy's key, and the expected reply
 abbrev pub key_op : AskedOfKey → KeyId → Op
 key_op Removal id = RemoveKey id
 key_op Status id = KeyStatus id
 
-abbrev pub key_wanted : AskedOfKey → Wanted
-key_wanted Removal = wanted.Removed
-key_wanted Status = wanted.Status
+abbrev pub expected_key_reply : AskedOfKey → ExpectedReply
+expected_key_reply Removal = wanted.Removed
+expected_key_reply Status = wanted.Status
 
 -- the claim to a policy's key is removed, or its status is returned
 abbrev pub key_steps : AskedOfKey → ℕ → ℕ → List ℕ → CommandSteps
 key_steps asked caller uid label =
     loading_policy caller uid label
-    (λ loaded. last_call caller uid (key_op asked loaded.policy.id) (key_wanted asked))
+    (λ loaded. last_call caller uid (key_op asked loaded.policy.id) (expected_key_reply asked))
 
 -- a protector's wrap is dropped
 abbrev pub policy_drop_steps : ℕ → ℕ → List ℕ → List ℕ → CommandSteps
@@ -53,5 +53,5 @@ abbrev pub encrypt_steps : List ℕ → ℕ → ℕ → ℕ → List (List ℕ) 
     → CommandSteps
 encrypt_steps seed caller uid number names path label settings =
     loading_policy caller uid label
-    (λ loaded. last_call caller uid (SetPolicy (path_meant names path)
-    (policy_bytes (node_policy loaded.policy settings)) (nonce_drawn seed caller number)) wanted.Done)
+    (λ loaded. last_call caller uid (SetPolicy (resolved_path names path)
+    (policy_bytes (node_policy loaded.policy settings)) (derived_nonce seed caller number)) wanted.Done)

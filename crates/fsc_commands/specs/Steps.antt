@@ -38,9 +38,9 @@ names_after names (Names listed more) = listed
 names_after names other = names
 
 -- the names of a reply that is a listing
-abbrev pub names_told : Reply → Option (List (List ℕ))
-names_told (Names listed more) = Some listed
-names_told other = None
+abbrev pub names_of_reply : Reply → Option (List (List ℕ))
+names_of_reply (Names listed more) = Some listed
+names_of_reply other = None
 
 -- the names of a caller's last listing in these entries, and otherwise those before; the entries have the
 -- calls or what a log shows of them

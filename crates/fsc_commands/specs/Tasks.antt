@@ -6,14 +6,14 @@ use Rattle.mount_model.specs.declared.call.Op.TheVariants as op
 use Rattle.script_words.specs.Records.{record_name}
 use Rattle.script_lang.specs.declared.verb.Verb.{Verb}
 use Rattle.script_lang.specs.declared.verb.Verb.TheVariants as verb
-use Rattle.session_records.specs.Draws.{nonce_drawn}
+use Rattle.session_records.specs.Derivations.{derived_nonce}
 use Rattle.fsc_commands.specs.CommandSteps.{CommandSteps}
 use Rattle.fsc_commands.specs.declared.policies.AskedOfKey.TheVariants.{Removal, Status}
-use Rattle.fsc_commands.specs.Meant.{id_meant, policy_said, number_said}
+use Rattle.fsc_commands.specs.References.{id_of_ref, policy_with_settings, number_or_zero}
 use Rattle.fsc_commands.specs.PolicySteps.{key_steps, policy_drop_steps, migrate_steps, encrypt_steps}
 use Rattle.fsc_commands.specs.PolicyKeySteps.{unlock_steps, policy_new_steps, policy_add_steps}
 use Rattle.fsc_commands.specs.ProtectorSteps.{protector_steps, protector_change_steps, protector_link_steps}
-use Rattle.fsc_commands.specs.Stars.{path_meant}
+use Rattle.fsc_commands.specs.Stars.{resolved_path}
 
 -- a single call; a session's work, which has these steps; or nothing, if the caller lets its turn pass
 pub data Task : Type 0 where
@@ -25,30 +25,30 @@ pub data Task : Type 0 where
 -- last listing; each has a line, so only a pause does nothing
 abbrev pub task_of : List ℕ → ℕ → ℕ → ℕ → List (List ℕ) → Verb → Task
 task_of seed caller uid number names (verb.AddKey raw) = Single (op.AddKey raw)
-task_of seed caller uid number names (verb.RemoveKey key) = Single (op.RemoveKey (id_meant key))
-task_of seed caller uid number names (verb.RemoveKeyAll key) = Single (op.RemoveKeyAll (id_meant key))
-task_of seed caller uid number names (verb.KeyStatus key) = Single (op.KeyStatus (id_meant key))
+task_of seed caller uid number names (verb.RemoveKey key) = Single (op.RemoveKey (id_of_ref key))
+task_of seed caller uid number names (verb.RemoveKeyAll key) = Single (op.RemoveKeyAll (id_of_ref key))
+task_of seed caller uid number names (verb.KeyStatus key) = Single (op.KeyStatus (id_of_ref key))
 task_of seed caller uid number names (verb.SetPolicy path key settings) =
-    Single (op.SetPolicy (path_meant names path) (policy_bytes (policy_said (id_meant key) settings))
-    (nonce_drawn seed caller number))
+    Single (op.SetPolicy (resolved_path names path) (policy_bytes (policy_with_settings (id_of_ref key) settings))
+    (derived_nonce seed caller number))
 task_of seed caller uid number names (verb.SetPolicyBytes path policy) =
-    Single (op.SetPolicy (path_meant names path) policy (nonce_drawn seed caller number))
-task_of seed caller uid number names (verb.GetPolicy path) = Single (op.GetPolicy (path_meant names path))
+    Single (op.SetPolicy (resolved_path names path) policy (derived_nonce seed caller number))
+task_of seed caller uid number names (verb.GetPolicy path) = Single (op.GetPolicy (resolved_path names path))
 task_of seed caller uid number names (verb.Mkdir path) =
-    Single (op.Mkdir (path_meant names path) (nonce_drawn seed caller number))
+    Single (op.Mkdir (resolved_path names path) (derived_nonce seed caller number))
 task_of seed caller uid number names (verb.Create path) =
-    Single (op.Create (path_meant names path) (nonce_drawn seed caller number))
+    Single (op.Create (resolved_path names path) (derived_nonce seed caller number))
 task_of seed caller uid number names (verb.Symlink path target) =
-    Single (op.Symlink (path_meant names path) target (nonce_drawn seed caller number))
-task_of seed caller uid number names (verb.ReadLink path) = Single (op.ReadLink (path_meant names path))
-task_of seed caller uid number names (verb.Unlink path) = Single (op.Unlink (path_meant names path))
-task_of seed caller uid number names (verb.Rmdir path) = Single (op.Rmdir (path_meant names path))
+    Single (op.Symlink (resolved_path names path) target (derived_nonce seed caller number))
+task_of seed caller uid number names (verb.ReadLink path) = Single (op.ReadLink (resolved_path names path))
+task_of seed caller uid number names (verb.Unlink path) = Single (op.Unlink (resolved_path names path))
+task_of seed caller uid number names (verb.Rmdir path) = Single (op.Rmdir (resolved_path names path))
 task_of seed caller uid number names (verb.Rename old_path new_path) =
-    Single (op.Rename (path_meant names old_path) (path_meant names new_path))
+    Single (op.Rename (resolved_path names old_path) (resolved_path names new_path))
 task_of seed caller uid number names (verb.List path start) =
-    Single (op.List (path_meant names path) (number_said start))
-task_of seed caller uid number names (verb.Stat path) = Single (op.Stat (path_meant names path))
-task_of seed caller uid number names (verb.Open path) = Single (op.OpenNode (path_meant names path))
+    Single (op.List (resolved_path names path) (number_or_zero start))
+task_of seed caller uid number names (verb.Stat path) = Single (op.Stat (resolved_path names path))
+task_of seed caller uid number names (verb.Open path) = Single (op.OpenNode (resolved_path names path))
 task_of seed caller uid number names (verb.Close handle) = Single (op.Close handle)
 task_of seed caller uid number names (verb.Read handle offset len) = Single (op.Read handle offset len)
 task_of seed caller uid number names (verb.Write handle offset bytes) = Single (op.Write handle offset bytes)

@@ -2,19 +2,19 @@
 
 ghost use Rattle.std.specs.Prelude.{◌≡◌, ℕ, List, Some, IfOk, OnErr};
 ghost use Rattle.mount_model.specs.Fits.{OpFits};
-ghost use Rattle.script_lang.specs.Asked.{IsAskable};
+ghost use Rattle.script_lang.specs.CommandTasks.{IsAskable};
 ghost use Rattle.fsc_commands.specs.Commands as spec;
-ghost use Rattle.fsc_commands.specs.Commands.{AnyFits, MayWantMemory};
-ghost use Rattle.fsc_commands.specs.CommandGroups.{CarriesBytes, DrawsNonce, NamesPath};
+ghost use Rattle.fsc_commands.specs.Commands.{AnyFits, MayTakeMemory};
+ghost use Rattle.fsc_commands.specs.CommandGroups.{CarriesBytes, DerivesNonce, NamesPath};
 ghost use Rattle.fsc_commands.specs.Steps.{names_in};
 
 use crate::EntryList;
-use crate::meant::{filled, id_meant, number_said, policy_said};
-use crate::stars::path_meant;
+use crate::references::{filled, id_of_ref, number_or_zero, policy_with_settings};
+use crate::stars::resolved_path;
 use mount_model::Op;
 use policy_ctx::encode_policy;
 use script_lang::Verb;
-use session_records::{Turn, nonce_drawn, record_name};
+use session_records::{Turn, derived_nonce, record_name};
 use std::alloc::{AllocError, Global};
 
 // Returns the call of a command that is a single one, or `None` if the command is a session's work or a
@@ -30,13 +30,13 @@ pub(crate) fn plain_op(
     ensures value { IfOk result (λ op. op
         ≡ spec.plain_op seed.now turn.caller turn.uid turn.number (names_in told.now) verb.now) }
     ensures fits { IfOk result AnyFits }
-    ensures memory { OnErr result (MayWantMemory
+    ensures memory { OnErr result (MayTakeMemory
         (spec.plain_op seed.now turn.caller turn.uid turn.number (names_in told.now) verb.now)) }
 {
     match verb {
-        Verb::RemoveKey(key) => Ok(Some(Op::RemoveKey { id: id_meant(key) })),
-        Verb::RemoveKeyAll(key) => Ok(Some(Op::RemoveKeyAll { id: id_meant(key) })),
-        Verb::KeyStatus(key) => Ok(Some(Op::KeyStatus { id: id_meant(key) })),
+        Verb::RemoveKey(key) => Ok(Some(Op::RemoveKey { id: id_of_ref(key) })),
+        Verb::RemoveKeyAll(key) => Ok(Some(Op::RemoveKeyAll { id: id_of_ref(key) })),
+        Verb::KeyStatus(key) => Ok(Some(Op::KeyStatus { id: id_of_ref(key) })),
         Verb::DropCaches => Ok(Some(Op::DropCaches)),
         Verb::Close(handle) => Ok(Some(Op::Close { handle: *handle })),
         Verb::Read {
@@ -127,37 +127,37 @@ fn nonce_op(
     verb: &Verb,
 ) -> Result<Op, AllocError>
     requires asked { IsAskable verb.now }
-    requires nonce { DrawsNonce verb.now }
+    requires nonce { DerivesNonce verb.now }
     ensures value { IfOk result (λ op. spec.plain_op seed.now turn.caller turn.uid turn.number
         (names_in told.now) verb.now ≡ Some op) }
     ensures fits { IfOk result OpFits }
 {
-    let nonce = nonce_drawn(seed, turn);
+    let nonce = derived_nonce(seed, turn);
     match verb {
         Verb::SetPolicy {
             path,
             key,
             settings,
         } => Ok(Op::SetPolicy {
-            path: path_meant(alloc, told, path)?,
-            policy: encode_policy(&policy_said(id_meant(key), *settings)),
+            path: resolved_path(alloc, told, path)?,
+            policy: encode_policy(&policy_with_settings(id_of_ref(key), *settings)),
             nonce,
         }),
         Verb::SetPolicyBytes { path, policy } => Ok(Op::SetPolicy {
-            path: path_meant(alloc, told, path)?,
+            path: resolved_path(alloc, told, path)?,
             policy: *policy,
             nonce,
         }),
         Verb::Mkdir(path) => Ok(Op::Mkdir {
-            path: path_meant(alloc, told, path)?,
+            path: resolved_path(alloc, told, path)?,
             nonce,
         }),
         Verb::Create(path) => Ok(Op::Create {
-            path: path_meant(alloc, told, path)?,
+            path: resolved_path(alloc, told, path)?,
             nonce,
         }),
         Verb::Symlink { path, target } => Ok(Op::Symlink {
-            path: path_meant(alloc, told, path)?,
+            path: resolved_path(alloc, told, path)?,
             target: target.copy(alloc)?,
             nonce,
         }),
@@ -175,30 +175,30 @@ fn path_op(alloc: Global, told: &EntryList, verb: &Verb) -> Result<Op, AllocErro
 {
     match verb {
         Verb::GetPolicy(path) => Ok(Op::GetPolicy {
-            path: path_meant(alloc, told, path)?,
+            path: resolved_path(alloc, told, path)?,
         }),
         Verb::ReadLink(path) => Ok(Op::ReadLink {
-            path: path_meant(alloc, told, path)?,
+            path: resolved_path(alloc, told, path)?,
         }),
         Verb::Unlink(path) => Ok(Op::Unlink {
-            path: path_meant(alloc, told, path)?,
+            path: resolved_path(alloc, told, path)?,
         }),
         Verb::Rmdir(path) => Ok(Op::Rmdir {
-            path: path_meant(alloc, told, path)?,
+            path: resolved_path(alloc, told, path)?,
         }),
         Verb::Rename { old_path, new_path } => Ok(Op::Rename {
-            old_path: path_meant(alloc, told, old_path)?,
-            new_path: path_meant(alloc, told, new_path)?,
+            old_path: resolved_path(alloc, told, old_path)?,
+            new_path: resolved_path(alloc, told, new_path)?,
         }),
         Verb::List { path, start } => Ok(Op::List {
-            path: path_meant(alloc, told, path)?,
-            start: number_said(*start),
+            path: resolved_path(alloc, told, path)?,
+            start: number_or_zero(*start),
         }),
         Verb::Stat(path) => Ok(Op::Stat {
-            path: path_meant(alloc, told, path)?,
+            path: resolved_path(alloc, told, path)?,
         }),
         Verb::Open(path) => Ok(Op::OpenNode {
-            path: path_meant(alloc, told, path)?,
+            path: resolved_path(alloc, told, path)?,
         }),
         _ => unreachable!(),
     }

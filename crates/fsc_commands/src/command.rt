@@ -2,18 +2,18 @@
 
 ghost use Rattle.std.specs.Prelude.{◌≡◌, ◌≤◌, IfOk, OnErr};
 ghost use Rattle.mount_model.specs.Fits.{OpFits};
-ghost use Rattle.script_lang.specs.Asked.{IsAskable};
+ghost use Rattle.script_lang.specs.CommandTasks.{IsAskable};
 ghost use Rattle.fsc_commands.specs.Commands.{command_steps, task_steps};
 ghost use Rattle.fsc_commands.specs.Tasks.Task.{Single};
 ghost use Rattle.fsc_commands.specs.Steps.{names_in};
-ghost use Rattle.fsc_commands.specs.Made.{Made, Begun};
-ghost use Rattle.fsc_commands.specs.Work.{Worked};
+ghost use Rattle.fsc_commands.specs.MadeCalls.{MadeCalls, Begun};
+ghost use Rattle.fsc_commands.specs.Work.{WorkResult};
 ghost use Rattle.fsc_commands.specs.Callers.{MayAsk};
-ghost use Rattle.fsc_commands.specs.declared.TheConstants.{MOST_CALLS};
+ghost use Rattle.fsc_commands.specs.declared.TheConstants.{MAX_CALLS};
 
 use crate::calls::plain_op;
 use crate::work::{Caller, Work};
-use crate::{EntryList, MOST_CALLS};
+use crate::{EntryList, MAX_CALLS};
 use argon_kdf::Stretch;
 use mount_model::{MountPort, Op};
 use reply_text::Outcome;
@@ -37,14 +37,14 @@ pub fn run_command<P: MountPort, S: Stretch>(
 ) -> Result<Option<Outcome>, AllocError>
     requires ready { S.ready stretches.now }
     requires caller { turn.caller ≡ P.who port.old }
-    requires left { MOST_CALLS ≤ P.calls_left port.old }
+    requires left { MAX_CALLS ≤ P.calls_left port.old }
     requires asked { IsAskable verb.now }
-    ensures made { IfOk result (λ outcome. Made (P.came port.old) port.new (P.calls_left port.new)
-        (P.calls_left port.old) MOST_CALLS
+    ensures made { IfOk result (λ outcome. MadeCalls (P.after_calls port.old) port.new (P.calls_left port.new)
+        (P.calls_left port.old) MAX_CALLS
         (command_steps seed.now turn.caller turn.uid turn.number (names_in entries.old) verb.now)
         outcome entries.old entries.new) }
     ensures caller { P.who port.new ≡ P.who port.old }
-    ensures failed { OnErr result (Begun (P.came port.old) port.new MOST_CALLS
+    ensures failed { OnErr result (Begun (P.after_calls port.old) port.new MAX_CALLS
         (command_steps seed.now turn.caller turn.uid turn.number (names_in entries.old) verb.now)) }
 {
     let work = Work {
@@ -69,9 +69,9 @@ impl<'a, S: Stretch> Work<'a, S> {
         verb: &Verb,
     ) -> Result<Option<Outcome>, Stop>
         requires stretches { S.ready self.now.stretches.now }
-        requires ready { MayAsk P.who P.calls_left MOST_CALLS self.now.turn caller.old }
+        requires ready { MayAsk P.who P.calls_left MAX_CALLS self.now.turn caller.old }
         requires asked { IsAskable verb.now }
-        ensures { Worked P.came P.who P.calls_left caller.old caller.new MOST_CALLS
+        ensures { WorkResult P.after_calls P.who P.calls_left caller.old caller.new MAX_CALLS
             (command_steps self.now.seed.now self.now.turn.caller self.now.turn.uid self.now.turn.number
             (names_in caller.old.entries.now) verb.now) result }
     {
@@ -89,9 +89,9 @@ impl<'a, S> Work<'a, S> {
         caller: &mut Caller<P>,
         op: Op,
     ) -> Result<Option<Outcome>, Stop>
-        requires ready { MayAsk P.who P.calls_left MOST_CALLS self.now.turn caller.old }
+        requires ready { MayAsk P.who P.calls_left MAX_CALLS self.now.turn caller.old }
         requires fits { OpFits op }
-        ensures { Worked P.came P.who P.calls_left caller.old caller.new MOST_CALLS
+        ensures { WorkResult P.after_calls P.who P.calls_left caller.old caller.new MAX_CALLS
             (task_steps self.now.turn.caller self.now.turn.uid (Single op)) result }
     {
         let placed = self.ask_for(caller, op)?;

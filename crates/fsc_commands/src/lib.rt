@@ -5,8 +5,8 @@ mod calls;
 mod changing;
 mod command;
 mod encrypting;
+mod known_entries;
 mod linking;
-mod meant;
 mod opening;
 mod parts;
 mod policies;
@@ -14,10 +14,10 @@ mod policy_add;
 mod policy_changes;
 mod policy_new;
 mod protectors;
+mod references;
 mod session;
 mod stars;
 mod stores;
-mod told;
 mod unlocking;
 mod wiping;
 mod work;
@@ -25,16 +25,16 @@ mod work;
 use call_history::Entry;
 pub use command::run_command;
 use item_list::Items;
-pub use meant::id_meant;
 use mount_model::Reply;
-use reply_text::Shown;
+pub use references::id_of_ref;
+use reply_text::LoggedCall;
 pub use session_records::Turn;
-pub use stars::path_meant;
+pub use stars::resolved_path;
 pub use wiping::wipe_call;
 
 /// What a log shows of a caller's calls and their replies, each with its place in the history, which counts
 /// from 0. It contains no raw keys, nonces or written bytes.
-pub type EntryList = Items<(u64, Entry<Shown, Reply>)>;
+pub type EntryList = Items<(u64, Entry<LoggedCall, Reply>)>;
 
 /// The maximum number of calls that a command makes.
-pub const MOST_CALLS: u64 = 4;
+pub const MAX_CALLS: u64 = 4;

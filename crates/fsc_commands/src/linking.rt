@@ -1,9 +1,9 @@
 //! A session's work that links a protector of another mount.
 
 ghost use Rattle.fsc_commands.specs.ProtectorSteps.{protector_link_steps};
-ghost use Rattle.fsc_commands.specs.Work.{Worked};
+ghost use Rattle.fsc_commands.specs.Work.{WorkResult};
 ghost use Rattle.fsc_commands.specs.Callers.{MayAsk};
-ghost use Rattle.fsc_commands.specs.declared.TheConstants.{MOST_CALLS};
+ghost use Rattle.fsc_commands.specs.declared.TheConstants.{MAX_CALLS};
 
 use crate::work::{Caller, Work};
 use mount_model::MountPort;
@@ -20,8 +20,8 @@ impl<'a, S> Work<'a, S> {
         caller: &mut Caller<P>,
         label: &Label,
     ) -> Result<Option<Outcome>, Stop>
-        requires ready { MayAsk P.who P.calls_left MOST_CALLS self.now.turn caller.old }
-        ensures { Worked P.came P.who P.calls_left caller.old caller.new MOST_CALLS
+        requires ready { MayAsk P.who P.calls_left MAX_CALLS self.now.turn caller.old }
+        ensures { WorkResult P.after_calls P.who P.calls_left caller.old caller.new MAX_CALLS
             (protector_link_steps self.now.turn.caller self.now.turn.uid label.now) result }
     {
         let text = encode_link(self.alloc, label)?;

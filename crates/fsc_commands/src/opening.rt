@@ -2,7 +2,7 @@
 
 ghost use Rattle.std.specs.Prelude.{◌≡◌, length, IfOk};
 ghost use Rattle.fsc_keys.specs.Keys.{key_id_of};
-ghost use Rattle.fsc_keys.specs.declared.raw_key.TheConstants.{MOST_RAW_KEY_BYTES};
+ghost use Rattle.fsc_keys.specs.declared.raw_key.TheConstants.{MAX_RAW_KEY_BYTES};
 ghost use Rattle.script_words.specs.Secrets.{IsSecret};
 ghost use Rattle.fsc_commands.specs.Opening.{opening_protector, opening_policy};
 ghost use Rattle.fsc_commands.specs.Work.{WorkedPart};
@@ -14,7 +14,7 @@ use byte_words::wipe;
 use mount_model::{MountPort, Op};
 use script_lang::Record;
 use session_records::{
-    OpenedPolicy, OpenedProtector, Stop, policy_opened, protector_opened, record_name,
+    OpenedPolicy, OpenedProtector, Stop, opened_policy, record_name, unwrapped_protector,
 };
 use short_bytes::Label;
 
@@ -28,13 +28,13 @@ impl<'a, S: Stretch> Work<'a, S> {
         requires stretches { S.ready self.now.stretches.now }
         requires ready { MayAsk P.who P.calls_left 1 self.now.turn caller.old }
         requires secret { IsSecret opener.secret.now }
-        ensures { WorkedPart P.came P.who P.calls_left caller.old caller.new 1
+        ensures { WorkedPart P.after_calls P.who P.calls_left caller.old caller.new 1
             (opening_protector self.now.turn.caller self.now.turn.uid opener.entry.protector.now
             opener.entry.secret.now) result }
     {
         let name = record_name(self.alloc, &Record::Protector(*opener.protector))?;
         let placed = self.ask_for(caller, Op::MetaLoad { name })?;
-        let mut got = protector_opened(
+        let mut got = unwrapped_protector(
             self.alloc,
             self.stretches,
             opener.protector,
@@ -65,14 +65,14 @@ impl<'a, S> Work<'a, S> {
         key: &[u8; 32],
     ) -> Result<OpenedPolicy, Stop>
         requires ready { MayAsk P.who P.calls_left 1 self.now.turn caller.old }
-        ensures opened { WorkedPart P.came P.who P.calls_left caller.old caller.new 1
+        ensures opened { WorkedPart P.after_calls P.who P.calls_left caller.old caller.new 1
             (opening_policy self.now.turn.caller self.now.turn.uid label.now protector.now key.now) result }
         ensures identified { IfOk result (λ opened. key_id_of opened.key ≡ opened.loaded.policy.id) }
-        ensures whole { IfOk result (λ opened. length opened.key ≡ MOST_RAW_KEY_BYTES) }
+        ensures whole { IfOk result (λ opened. length opened.key ≡ MAX_RAW_KEY_BYTES) }
     {
         let name = record_name(self.alloc, &Record::Policy(*label))?;
         let placed = self.ask_for(caller, Op::MetaLoad { name })?;
-        let mut got = policy_opened(self.alloc, label, protector, key, &placed.1.reply);
+        let mut got = opened_policy(self.alloc, label, protector, key, &placed.1.reply);
         match caller.entries.push(placed) {
             Ok(()) => got,
             Err(error) => {

@@ -3,21 +3,23 @@
 ghost use Rattle.std.specs.Prelude.{◌≡◌, ◌<◌, ◌+◌, [], ◌∷◌, Some, IfOk, OnErr};
 ghost use Rattle.mount_model.specs.declared.call.Call.{Call};
 ghost use Rattle.mount_model.specs.Fits.{Fits, OpFits};
-ghost use Rattle.fsc_commands.specs.Wiped.{wiped_call};
-ghost use Rattle.fsc_commands.specs.CommandSteps.{last_call, called};
+ghost use Rattle.fsc_commands.specs.Wiping.{wiped_call};
+ghost use Rattle.fsc_commands.specs.CommandSteps.{last_call, call_of_caller};
 ghost use Rattle.fsc_commands.specs.Opening.{loading_policy};
-ghost use Rattle.fsc_commands.specs.Made.{asked};
-ghost use Rattle.fsc_commands.specs.Work.{Worked, WorkedPart};
-ghost use Rattle.fsc_commands.specs.Callers.{Answered, IsSameCaller, MayAsk};
-ghost use Rattle.reply_text.specs.Shown.{shown_entry};
+ghost use Rattle.fsc_commands.specs.MadeCalls.{entry_of_logged};
+ghost use Rattle.fsc_commands.specs.Work.{WorkResult, WorkedPart};
+ghost use Rattle.fsc_commands.specs.Callers.{AnsweredCall, IsSameCaller, MayAsk};
+ghost use Rattle.reply_text.specs.Logged.{logged_entry};
 
 use crate::wiping::wipe_call;
 use crate::work::{Caller, Work};
 use call_history::Entry;
 use mount_model::{Call, MountPort, Op, Reply};
-use reply_text::{Outcome, Shown, shown_of};
+use reply_text::{LoggedCall, Outcome, to_logged};
 use script_lang::Record;
-use session_records::{LoadedPolicy, Stop, Turn, Wanted, outcome_of, policy_loaded, record_name};
+use session_records::{
+    ExpectedReply, LoadedPolicy, Stop, Turn, loaded_policy, outcome_of, record_name,
+};
 use short_bytes::Label;
 use std::alloc::{AllocError, Global};
 
@@ -28,45 +30,45 @@ fn ask<P: MountPort>(
     port: &mut P,
     turn: Turn,
     call: &mut Call,
-) -> Result<(u64, Entry<Shown, Reply>), AllocError>
+) -> Result<(u64, Entry<LoggedCall, Reply>), AllocError>
     requires caller { turn.caller ≡ P.who port.old }
     requires left { 0 < P.calls_left port.old }
     requires fits { Fits call.old }
-    ensures came { IfOk result (λ placed. P.came port.old
-        (asked turn.caller call.old placed ∷ []) port.new) }
+    ensures after_calls { IfOk result (λ placed. P.after_calls port.old
+        (entry_of_logged turn.caller call.old placed ∷ []) port.new) }
     ensures shown { IfOk result (λ placed. placed
-        ≡ (placed.0, shown_entry (asked turn.caller call.old placed).1)) }
+        ≡ (placed.0, logged_entry (entry_of_logged turn.caller call.old placed).1)) }
     ensures wiped { call.new ≡ wiped_call call.old }
     ensures one_fewer { IfOk result (λ placed. P.calls_left port.new + 1 ≡ P.calls_left port.old) }
     ensures caller { P.who port.new ≡ P.who port.old }
     ensures unasked { OnErr result (port.new ≡ port.old) }
-    ensures failed { OnErr result (P.came port.old [] port.new) }
+    ensures failed { OnErr result (P.after_calls port.old [] port.new) }
 {
-    let answered = ask_lent(alloc, port, turn, call);
+    let answered = ask_pending(alloc, port, turn, call);
     wipe_call(alloc, call);
     answered
 }
 
 // The same for a borrowed call, which isn't wiped.
-fn ask_lent<P: MountPort>(
+fn ask_pending<P: MountPort>(
     alloc: Global,
     port: &mut P,
     turn: Turn,
     call: &Call,
-) -> Result<(u64, Entry<Shown, Reply>), AllocError>
+) -> Result<(u64, Entry<LoggedCall, Reply>), AllocError>
     requires caller { turn.caller ≡ P.who port.old }
     requires left { 0 < P.calls_left port.old }
     requires fits { Fits call.now }
-    ensures came { IfOk result (λ placed. P.came port.old
-        (asked turn.caller call.now placed ∷ []) port.new) }
+    ensures after_calls { IfOk result (λ placed. P.after_calls port.old
+        (entry_of_logged turn.caller call.now placed ∷ []) port.new) }
     ensures shown { IfOk result (λ placed. placed
-        ≡ (placed.0, shown_entry (asked turn.caller call.now placed).1)) }
+        ≡ (placed.0, logged_entry (entry_of_logged turn.caller call.now placed).1)) }
     ensures one_fewer { IfOk result (λ placed. P.calls_left port.new + 1 ≡ P.calls_left port.old) }
     ensures caller { P.who port.new ≡ P.who port.old }
     ensures unasked { OnErr result (port.new ≡ port.old) }
-    ensures failed { OnErr result (P.came port.old [] port.new) }
+    ensures failed { OnErr result (P.after_calls port.old [] port.new) }
 {
-    let shown = shown_of(alloc, call)?;
+    let shown = to_logged(alloc, call)?;
     let placed = port.call(call);
     let entry = Entry {
         who: turn.caller,
@@ -83,13 +85,13 @@ impl<'a, S> Work<'a, S> {
         &self,
         caller: &mut Caller<P>,
         op: Op,
-    ) -> Result<(u64, Entry<Shown, Reply>), AllocError>
+    ) -> Result<(u64, Entry<LoggedCall, Reply>), AllocError>
         requires ready { MayAsk P.who P.calls_left 1 self.now.turn caller.old }
         requires fits { OpFits op }
-        ensures answered { IfOk result (Answered P.came P.calls_left caller.old caller.new
-            self.now.turn.caller (called self.now.turn.uid op)) }
+        ensures answered { IfOk result (AnsweredCall P.after_calls P.calls_left caller.old caller.new
+            self.now.turn.caller (call_of_caller self.now.turn.uid op)) }
         ensures same { IsSameCaller P.who caller.old caller.new }
-        ensures failed { OnErr result (P.came caller.old.port.now [] caller.new.port.now) }
+        ensures failed { OnErr result (P.after_calls caller.old.port.now [] caller.new.port.now) }
     {
         let mut call = Call {
             uid: self.turn.uid,
@@ -103,11 +105,11 @@ impl<'a, S> Work<'a, S> {
         &self,
         caller: &mut Caller<P>,
         op: Op,
-        wanted: Wanted,
+        wanted: ExpectedReply,
     ) -> Result<Option<Outcome>, Stop>
         requires ready { MayAsk P.who P.calls_left 1 self.now.turn caller.old }
         requires fits { OpFits op }
-        ensures { Worked P.came P.who P.calls_left caller.old caller.new 1
+        ensures { WorkResult P.after_calls P.who P.calls_left caller.old caller.new 1
             (last_call self.now.turn.caller self.now.turn.uid op wanted) result }
     {
         let placed = self.ask_for(caller, op)?;
@@ -123,12 +125,12 @@ impl<'a, S> Work<'a, S> {
         label: &Label,
     ) -> Result<LoadedPolicy, Stop>
         requires ready { MayAsk P.who P.calls_left 1 self.now.turn caller.old }
-        ensures { WorkedPart P.came P.who P.calls_left caller.old caller.new 1
+        ensures { WorkedPart P.after_calls P.who P.calls_left caller.old caller.new 1
             (loading_policy self.now.turn.caller self.now.turn.uid label.now) result }
     {
         let name = record_name(self.alloc, &Record::Policy(*label))?;
         let placed = self.ask_for(caller, Op::MetaLoad { name })?;
-        let loaded = policy_loaded(self.alloc, label, &placed.1.reply);
+        let loaded = loaded_policy(self.alloc, label, &placed.1.reply);
         caller.entries.push(placed)?;
         loaded
     }

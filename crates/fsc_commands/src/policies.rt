@@ -3,15 +3,15 @@
 ghost use Rattle.std.specs.Prelude.{◌≡◌};
 ghost use Rattle.fsc_commands.specs.PolicySteps as spec;
 ghost use Rattle.fsc_commands.specs.PolicySteps.{key_steps};
-ghost use Rattle.fsc_commands.specs.Work.{Worked};
+ghost use Rattle.fsc_commands.specs.Work.{WorkResult};
 ghost use Rattle.fsc_commands.specs.Callers.{MayAsk};
-ghost use Rattle.fsc_commands.specs.declared.TheConstants.{MOST_CALLS};
+ghost use Rattle.fsc_commands.specs.declared.TheConstants.{MAX_CALLS};
 
 use crate::work::{Caller, Work};
 use mount_model::{MountPort, Op};
 use policy_ctx::KeyId;
 use reply_text::Outcome;
-use session_records::{Stop, Wanted};
+use session_records::{ExpectedReply, Stop};
 use short_bytes::Label;
 
 // What a caller asks of the key of a policy.
@@ -31,12 +31,16 @@ impl<'a, S> Work<'a, S> {
         policy: &Label,
         asked: AskedOfKey,
     ) -> Result<Option<Outcome>, Stop>
-        requires ready { MayAsk P.who P.calls_left MOST_CALLS self.now.turn caller.old }
-        ensures { Worked P.came P.who P.calls_left caller.old caller.new MOST_CALLS
+        requires ready { MayAsk P.who P.calls_left MAX_CALLS self.now.turn caller.old }
+        ensures { WorkResult P.after_calls P.who P.calls_left caller.old caller.new MAX_CALLS
             (key_steps asked self.now.turn.caller self.now.turn.uid policy.now) result }
     {
         let loaded = self.load_policy(caller, policy)?;
-        self.finish(caller, key_op(asked, loaded.policy.id), key_wanted(asked))
+        self.finish(
+            caller,
+            key_op(asked, loaded.policy.id),
+            expected_key_reply(asked),
+        )
     }
 }
 
@@ -51,11 +55,11 @@ fn key_op(asked: AskedOfKey, id: KeyId) -> Op
 }
 
 // Returns the reply that is expected.
-fn key_wanted(asked: AskedOfKey) -> Wanted
-    ensures { result ≡ spec.key_wanted asked }
+fn expected_key_reply(asked: AskedOfKey) -> ExpectedReply
+    ensures { result ≡ spec.expected_key_reply asked }
 {
     match asked {
-        AskedOfKey::Removal => Wanted::Removed,
-        AskedOfKey::Status => Wanted::Status,
+        AskedOfKey::Removal => ExpectedReply::Removed,
+        AskedOfKey::Status => ExpectedReply::Status,
     }
 }

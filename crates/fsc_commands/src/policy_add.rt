@@ -1,14 +1,14 @@
 //! A session's work by which a further protector opens a policy.
 
 ghost use Rattle.std.specs.Prelude.{◌≡◌, length, Ok};
-ghost use Rattle.fsc_keys.specs.declared.raw_key.TheConstants.{MOST_RAW_KEY_BYTES};
+ghost use Rattle.fsc_keys.specs.declared.raw_key.TheConstants.{MAX_RAW_KEY_BYTES};
 ghost use Rattle.script_words.specs.Secrets.{IsSecret};
-ghost use Rattle.session_records.specs.PolicyRecords.{room_for};
+ghost use Rattle.session_records.specs.PolicyRecords.{wrap_space_for};
 ghost use Rattle.fsc_commands.specs.PolicyKeySteps as spec;
 ghost use Rattle.fsc_commands.specs.PolicyKeySteps.{policy_add_steps};
-ghost use Rattle.fsc_commands.specs.Work.{Worked};
+ghost use Rattle.fsc_commands.specs.Work.{WorkResult};
 ghost use Rattle.fsc_commands.specs.Callers.{MayAsk};
-ghost use Rattle.fsc_commands.specs.declared.TheConstants.{MOST_CALLS};
+ghost use Rattle.fsc_commands.specs.declared.TheConstants.{MAX_CALLS};
 
 use crate::work::{Caller, Opener, Work};
 use argon_kdf::Stretch;
@@ -16,7 +16,7 @@ use byte_words::wipe;
 use fsc_keys::RawKey;
 use mount_model::MountPort;
 use reply_text::Outcome;
-use session_records::{LoadedPolicy, Stop, policy_widened, room_for};
+use session_records::{LoadedPolicy, Stop, policy_with_wrap, wrap_space_for};
 use short_bytes::Label;
 
 impl<'a, S: Stretch> Work<'a, S> {
@@ -29,10 +29,10 @@ impl<'a, S: Stretch> Work<'a, S> {
         added: Opener,
     ) -> Result<Option<Outcome>, Stop>
         requires stretches { S.ready self.now.stretches.now }
-        requires ready { MayAsk P.who P.calls_left MOST_CALLS self.now.turn caller.old }
+        requires ready { MayAsk P.who P.calls_left MAX_CALLS self.now.turn caller.old }
         requires secret { IsSecret opener.secret.now }
         requires added_secret { IsSecret added.secret.now }
-        ensures { Worked P.came P.who P.calls_left caller.old caller.new MOST_CALLS
+        ensures { WorkResult P.after_calls P.who P.calls_left caller.old caller.new MAX_CALLS
             (policy_add_steps self.now.seed.now self.now.turn.caller self.now.turn.uid self.now.turn.number
             policy.now opener.entry.protector.now opener.entry.secret.now added.entry.protector.now
             added.entry.secret.now) result }
@@ -56,12 +56,12 @@ impl<'a, S: Stretch> Work<'a, S> {
         requires stretches { S.ready self.now.stretches.now }
         requires ready { MayAsk P.who P.calls_left 3 self.now.turn caller.old }
         requires secret { IsSecret added.secret.now }
-        ensures { Worked P.came P.who P.calls_left caller.old caller.new 3
+        ensures { WorkResult P.after_calls P.who P.calls_left caller.old caller.new 3
             (spec.add_through self.now.seed.now self.now.turn.caller self.now.turn.uid self.now.turn.number
             policy.now protector.now key.now added.entry.protector.now added.entry.secret.now) result }
     {
         let mut opened = self.open_policy(caller, policy, protector, key)?;
-        match room_for(added.protector, &opened.loaded.policy.wraps) {
+        match wrap_space_for(added.protector, &opened.loaded.policy.wraps) {
             Ok(()) => {
                 let ended = self.add_to(caller, policy, opened.loaded, &opened.key, added);
                 opened.key.wipe();
@@ -86,15 +86,15 @@ impl<'a, S: Stretch> Work<'a, S> {
         requires stretches { S.ready self.now.stretches.now }
         requires ready { MayAsk P.who P.calls_left 2 self.now.turn caller.old }
         requires secret { IsSecret added.secret.now }
-        requires room { room_for added.protector.now loaded.policy.wraps ≡ Ok tt }
-        requires whole { length policy_key.now ≡ MOST_RAW_KEY_BYTES }
-        ensures { Worked P.came P.who P.calls_left caller.old caller.new 2
+        requires room { wrap_space_for added.protector.now loaded.policy.wraps ≡ Ok tt }
+        requires whole { length policy_key.now ≡ MAX_RAW_KEY_BYTES }
+        ensures { WorkResult P.after_calls P.who P.calls_left caller.old caller.new 2
             (spec.add_to self.now.seed.now self.now.turn.caller self.now.turn.uid self.now.turn.number
             policy.now loaded policy_key.now added.entry.protector.now added.entry.secret.now) result }
     {
         let version = loaded.version;
         let mut opened = self.open_protector(caller, added)?;
-        let widened = policy_widened(
+        let widened = policy_with_wrap(
             self.seed,
             self.turn,
             loaded.policy,

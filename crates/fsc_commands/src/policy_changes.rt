@@ -1,9 +1,9 @@
 //! A session's work that changes a policy's record.
 
 ghost use Rattle.fsc_commands.specs.PolicySteps.{policy_drop_steps, migrate_steps};
-ghost use Rattle.fsc_commands.specs.Work.{Worked};
+ghost use Rattle.fsc_commands.specs.Work.{WorkResult};
 ghost use Rattle.fsc_commands.specs.Callers.{MayAsk};
-ghost use Rattle.fsc_commands.specs.declared.TheConstants.{MOST_CALLS};
+ghost use Rattle.fsc_commands.specs.declared.TheConstants.{MAX_CALLS};
 
 use crate::work::{Caller, Work};
 use mount_model::MountPort;
@@ -19,8 +19,8 @@ impl<'a, S> Work<'a, S> {
         policy: &Label,
         protector: &Label,
     ) -> Result<Option<Outcome>, Stop>
-        requires ready { MayAsk P.who P.calls_left MOST_CALLS self.now.turn caller.old }
-        ensures { Worked P.came P.who P.calls_left caller.old caller.new MOST_CALLS
+        requires ready { MayAsk P.who P.calls_left MAX_CALLS self.now.turn caller.old }
+        ensures { WorkResult P.after_calls P.who P.calls_left caller.old caller.new MAX_CALLS
             (policy_drop_steps self.now.turn.caller self.now.turn.uid policy.now protector.now) result }
     {
         let loaded = self.load_policy(caller, policy)?;
@@ -34,8 +34,8 @@ impl<'a, S> Work<'a, S> {
         caller: &mut Caller<P>,
         policy: &Label,
     ) -> Result<Option<Outcome>, Stop>
-        requires ready { MayAsk P.who P.calls_left MOST_CALLS self.now.turn caller.old }
-        ensures { Worked P.came P.who P.calls_left caller.old caller.new MOST_CALLS
+        requires ready { MayAsk P.who P.calls_left MAX_CALLS self.now.turn caller.old }
+        ensures { WorkResult P.after_calls P.who P.calls_left caller.old caller.new MAX_CALLS
             (migrate_steps self.now.turn.caller self.now.turn.uid policy.now) result }
     {
         let loaded = self.load_policy(caller, policy)?;

@@ -2,9 +2,9 @@
 
 ghost use Rattle.script_words.specs.Secrets.{IsSecret};
 ghost use Rattle.fsc_commands.specs.PolicyKeySteps.{policy_new_steps};
-ghost use Rattle.fsc_commands.specs.Work.{Worked};
+ghost use Rattle.fsc_commands.specs.Work.{WorkResult};
 ghost use Rattle.fsc_commands.specs.Callers.{MayAsk};
-ghost use Rattle.fsc_commands.specs.declared.TheConstants.{MOST_CALLS};
+ghost use Rattle.fsc_commands.specs.declared.TheConstants.{MAX_CALLS};
 
 use crate::work::{Caller, Opener, Work};
 use argon_kdf::Stretch;
@@ -12,7 +12,7 @@ use byte_words::wipe;
 use mount_model::MountPort;
 use reply_text::Outcome;
 use script_lang::Options as SaidOptions;
-use session_records::{Stop, drawn_policy};
+use session_records::{Stop, new_policy};
 use short_bytes::Label;
 
 impl<'a, S: Stretch> Work<'a, S> {
@@ -25,14 +25,14 @@ impl<'a, S: Stretch> Work<'a, S> {
         options: Option<SaidOptions>,
     ) -> Result<Option<Outcome>, Stop>
         requires stretches { S.ready self.now.stretches.now }
-        requires ready { MayAsk P.who P.calls_left MOST_CALLS self.now.turn caller.old }
+        requires ready { MayAsk P.who P.calls_left MAX_CALLS self.now.turn caller.old }
         requires secret { IsSecret opener.secret.now }
-        ensures { Worked P.came P.who P.calls_left caller.old caller.new MOST_CALLS
+        ensures { WorkResult P.after_calls P.who P.calls_left caller.old caller.new MAX_CALLS
             (policy_new_steps self.now.seed.now self.now.turn.caller self.now.turn.uid self.now.turn.number
             policy.now opener.entry.protector.now opener.entry.secret.now options) result }
     {
         let mut opened = self.open_protector(caller, opener)?;
-        let drawn = drawn_policy(
+        let drawn = new_policy(
             self.alloc,
             self.seed,
             self.turn,

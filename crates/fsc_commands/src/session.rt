@@ -1,13 +1,13 @@
 //! A session's work, command by command.
 
 ghost use Rattle.std.specs.Prelude.{◌≡◌};
-ghost use Rattle.script_lang.specs.Asked.{IsAskable};
+ghost use Rattle.script_lang.specs.CommandTasks.{IsAskable};
 ghost use Rattle.fsc_commands.specs.Commands.{command_steps, plain_op};
 ghost use Rattle.fsc_commands.specs.CommandGroups.{OpensProtector};
 ghost use Rattle.fsc_commands.specs.Steps.{names_in};
-ghost use Rattle.fsc_commands.specs.Work.{Worked};
+ghost use Rattle.fsc_commands.specs.Work.{WorkResult};
 ghost use Rattle.fsc_commands.specs.Callers.{MayAsk};
-ghost use Rattle.fsc_commands.specs.declared.TheConstants.{MOST_CALLS};
+ghost use Rattle.fsc_commands.specs.declared.TheConstants.{MAX_CALLS};
 
 use crate::policies::AskedOfKey;
 use crate::work::{Caller, Opener, Work};
@@ -25,11 +25,11 @@ impl<'a, S: Stretch> Work<'a, S> {
         verb: &Verb,
     ) -> Result<Option<Outcome>, Stop>
         requires stretches { S.ready self.now.stretches.now }
-        requires ready { MayAsk P.who P.calls_left MOST_CALLS self.now.turn caller.old }
+        requires ready { MayAsk P.who P.calls_left MAX_CALLS self.now.turn caller.old }
         requires asked { IsAskable verb.now }
         requires session { plain_op self.now.seed.now self.now.turn.caller self.now.turn.uid
             self.now.turn.number (names_in caller.old.entries.now) verb.now ≡ None }
-        ensures { Worked P.came P.who P.calls_left caller.old caller.new MOST_CALLS
+        ensures { WorkResult P.after_calls P.who P.calls_left caller.old caller.new MAX_CALLS
             (command_steps self.now.seed.now self.now.turn.caller self.now.turn.uid self.now.turn.number
             (names_in caller.old.entries.now) verb.now) result }
     {
@@ -62,10 +62,10 @@ impl<'a, S: Stretch> Work<'a, S> {
         verb: &Verb,
     ) -> Result<Option<Outcome>, Stop>
         requires stretches { S.ready self.now.stretches.now }
-        requires ready { MayAsk P.who P.calls_left MOST_CALLS self.now.turn caller.old }
+        requires ready { MayAsk P.who P.calls_left MAX_CALLS self.now.turn caller.old }
         requires asked { IsAskable verb.now }
         requires opening { OpensProtector verb.now }
-        ensures { Worked P.came P.who P.calls_left caller.old caller.new MOST_CALLS
+        ensures { WorkResult P.after_calls P.who P.calls_left caller.old caller.new MAX_CALLS
             (command_steps self.now.seed.now self.now.turn.caller self.now.turn.uid self.now.turn.number
             (names_in caller.old.entries.now) verb.now) result }
     {

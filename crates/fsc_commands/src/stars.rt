@@ -5,16 +5,16 @@ ghost use Rattle.mount_model.specs.Carried as carried;
 ghost use Rattle.script_words.specs.Path as script;
 ghost use Rattle.fsc_commands.specs.Steps.{names_in};
 ghost use Rattle.fsc_commands.specs.Stars as spec;
-ghost use Rattle.fsc_commands.specs.Stars.{path_meant, name_or_star};
+ghost use Rattle.fsc_commands.specs.Stars.{resolved_path, name_or_star};
 
 use crate::EntryList;
-use crate::told::last_names;
+use crate::known_entries::last_names;
 use byte_words::slice_is_bytes;
 use call_history::Entry;
 use item_list::Bytes;
-use mount_limits::MOST_PART_BYTES;
+use mount_limits::MAX_PART_BYTES;
 use mount_model::{Part, Path, Reply};
-use reply_text::Shown;
+use reply_text::LoggedCall;
 use script_lang::{ScriptPart, ScriptPath};
 use std::alloc::{AllocError, Global};
 use text_words::{may_be_part, push_decimal};
@@ -22,8 +22,8 @@ use text_words::{may_be_part, push_decimal};
 /// Returns the path that a script's path means to a caller with these entries. A mount may be asked for it.
 /// A star means the name of its number, from 0, in the caller's last listing. If there is no such name, or
 /// it can't be a part of a path, the star means its own text.
-pub fn path_meant(alloc: Global, told: &EntryList, path: &ScriptPath) -> Result<Path, AllocError>
-    ensures value { IfOk result (λ meant. meant ≡ path_meant (names_in told.now) path.now) }
+pub fn resolved_path(alloc: Global, told: &EntryList, path: &ScriptPath) -> Result<Path, AllocError>
+    ensures value { IfOk result (λ meant. meant ≡ resolved_path (names_in told.now) path.now) }
     ensures fits { IfOk result carried.IsPath }
 {
     parts_meant(alloc, told.as_slice(), path.parts())
@@ -32,29 +32,29 @@ pub fn path_meant(alloc: Global, told: &EntryList, path: &ScriptPath) -> Result<
 // Returns the path of what each part means.
 fn parts_meant(
     alloc: Global,
-    told: &[(u64, Entry<Shown, Reply>)],
+    told: &[(u64, Entry<LoggedCall, Reply>)],
     parts: &[ScriptPart],
 ) -> Result<Path, AllocError>
     requires { script.IsPath parts.now }
-    ensures value { IfOk result (λ meant. meant ≡ path_meant (names_in told.now) parts.now) }
+    ensures value { IfOk result (λ meant. meant ≡ resolved_path (names_in told.now) parts.now) }
     ensures fits { IfOk result carried.IsPath }
 {
     let mut meant = Path::root(alloc);
     'parts: for part in parts {
-        let bytes = part_meant(alloc, told, part)?;
+        let bytes = resolved_part(alloc, told, part)?;
         meant.push(Part::new(bytes))?;
     }
     Ok(meant)
 }
 
 // Returns what a part means.
-fn part_meant(
+fn resolved_part(
     alloc: Global,
-    told: &[(u64, Entry<Shown, Reply>)],
+    told: &[(u64, Entry<LoggedCall, Reply>)],
     part: &ScriptPart,
 ) -> Result<Bytes, AllocError>
     requires { script.IsPart part.now }
-    ensures value { IfOk result (λ meant. meant ≡ spec.part_meant (names_in told.now) part.now) }
+    ensures value { IfOk result (λ meant. meant ≡ spec.resolved_part (names_in told.now) part.now) }
     ensures fits { IfOk result carried.IsPart }
 {
     match part {
@@ -100,5 +100,5 @@ fn star_text(alloc: Global, number: u32) -> Result<Bytes, AllocError>
 fn could_be_part(name: &[u8]) -> bool
     ensures { result ≡ spec.could_be_part name.now }
 {
-    !name.is_empty() && name.len() <= MOST_PART_BYTES && may_be_part(name)
+    !name.is_empty() && name.len() <= MAX_PART_BYTES && may_be_part(name)
 }

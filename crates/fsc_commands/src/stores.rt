@@ -1,11 +1,11 @@
 //! The last part of a session's work that stores a record.
 
 ghost use Rattle.std.specs.Prelude.{◌≤◌, length};
-ghost use Rattle.mount_limits.specs.declared.TheConstants.{MOST_CARRIED_BYTES};
+ghost use Rattle.mount_limits.specs.declared.TheConstants.{MAX_CARRIED_BYTES};
 ghost use Rattle.protector_meta.specs.PolicyText.{policy_text};
 ghost use Rattle.protector_meta.specs.ProtectorText.{protector_text};
 ghost use Rattle.fsc_commands.specs.Opening.{storing};
-ghost use Rattle.fsc_commands.specs.Work.{Worked};
+ghost use Rattle.fsc_commands.specs.Work.{WorkResult};
 ghost use Rattle.fsc_commands.specs.Callers.{MayAsk};
 
 use crate::work::{Caller, Work};
@@ -14,7 +14,7 @@ use mount_model::{MountPort, Op};
 use protector_meta::{PolicyFile, Protector};
 use reply_text::Outcome;
 use script_lang::Record;
-use session_records::{Stop, Wanted, record_name, stored_policy, stored_protector};
+use session_records::{ExpectedReply, Stop, record_name, stored_policy, stored_protector};
 use short_bytes::Label;
 
 impl<'a, S> Work<'a, S> {
@@ -27,8 +27,8 @@ impl<'a, S> Work<'a, S> {
         text: Bytes,
     ) -> Result<Option<Outcome>, Stop>
         requires ready { MayAsk P.who P.calls_left 1 self.now.turn caller.old }
-        requires few { length text ≤ MOST_CARRIED_BYTES }
-        ensures { Worked P.came P.who P.calls_left caller.old caller.new 1
+        requires few { length text ≤ MAX_CARRIED_BYTES }
+        ensures { WorkResult P.after_calls P.who P.calls_left caller.old caller.new 1
             (storing self.now.turn.caller self.now.turn.uid stored expected text) result }
     {
         let op = Op::MetaStore {
@@ -36,7 +36,7 @@ impl<'a, S> Work<'a, S> {
             expected,
             bytes: text,
         };
-        self.finish(caller, op, Wanted::Stored)
+        self.finish(caller, op, ExpectedReply::Stored)
     }
 
     // The same for a policy's record.
@@ -48,7 +48,7 @@ impl<'a, S> Work<'a, S> {
         policy: &PolicyFile,
     ) -> Result<Option<Outcome>, Stop>
         requires ready { MayAsk P.who P.calls_left 1 self.now.turn caller.old }
-        ensures { Worked P.came P.who P.calls_left caller.old caller.new 1
+        ensures { WorkResult P.after_calls P.who P.calls_left caller.old caller.new 1
             (storing self.now.turn.caller self.now.turn.uid (Record.Policy label.now) expected
             (policy_text policy.now)) result }
     {
@@ -65,7 +65,7 @@ impl<'a, S> Work<'a, S> {
         protector: &Protector,
     ) -> Result<Option<Outcome>, Stop>
         requires ready { MayAsk P.who P.calls_left 1 self.now.turn caller.old }
-        ensures { Worked P.came P.who P.calls_left caller.old caller.new 1
+        ensures { WorkResult P.after_calls P.who P.calls_left caller.old caller.new 1
             (storing self.now.turn.caller self.now.turn.uid (Record.Protector label.now) expected
             (protector_text protector.now)) result }
     {

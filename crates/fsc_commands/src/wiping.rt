@@ -1,7 +1,7 @@
 //! Calls whose bytes are wiped once they are answered.
 
 ghost use Rattle.std.specs.Prelude.{◌≡◌};
-ghost use Rattle.fsc_commands.specs.Wiped.{wiped_bytes, wiped_call, wiped_nonce, zeros};
+ghost use Rattle.fsc_commands.specs.Wiping.{wiped_bytes, wiped_call, wiped_nonce, zeros};
 
 use byte_words::wipe;
 use item_list::Bytes;

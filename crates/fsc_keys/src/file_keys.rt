@@ -4,7 +4,7 @@ ghost use Rattle.std.specs.Prelude.{◌≡◌};
 ghost use Rattle.byte_words.specs.Bytes.{AreBytes};
 ghost use Rattle.fsc_keys.specs.Keys.{file_key_of, key_bytes, key_id_of, mode_key_of, zero_key, zeros_for};
 
-use crate::draws::{draw_file_key, draw_id, draw_mode_key, extract};
+use crate::derivations::{derive_file_key, derive_id, derive_mode_key, extract};
 use crate::raw_key::RawKey;
 use byte_words::wipe;
 use policy_ctx::KeyId;
@@ -53,7 +53,7 @@ impl FileKey {
 pub fn key_id(raw: &RawKey) -> KeyId
     ensures { result ≡ key_id_of raw.now }
 {
-    draw_id(&extract(raw))
+    derive_id(&extract(raw))
 }
 
 /// Returns the key of the file with this nonce, for its contents or for its names. A caller that derives
@@ -63,7 +63,7 @@ pub fn file_key(raw: &RawKey, kind: KeyKind, nonce: &[u8; 16]) -> FileKey
     ensures ranged { AreBytes (key_bytes result) }
 {
     let mut key = FileKey::zeros(kind);
-    draw_file_key(&extract(raw), nonce, &mut key);
+    derive_file_key(&extract(raw), nonce, &mut key);
     key
 }
 
@@ -73,6 +73,6 @@ pub fn mode_key(raw: &RawKey, kind: KeyKind) -> FileKey
     ensures ranged { AreBytes (key_bytes result) }
 {
     let mut key = FileKey::zeros(kind);
-    draw_mode_key(&extract(raw), &mut key);
+    derive_mode_key(&extract(raw), &mut key);
     key
 }

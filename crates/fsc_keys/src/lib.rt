@@ -2,8 +2,8 @@
 //! descriptors of protectors' keys.
 #![tactic(auto)]
 
+mod derivations;
 mod descriptors;
-mod draws;
 mod file_keys;
 mod prepared_key;
 mod raw_key;
@@ -12,4 +12,4 @@ pub use descriptors::descriptor;
 pub use file_keys::{FileKey, KeyKind, file_key, key_id, mode_key};
 pub use policy_ctx::KeyId;
 pub use prepared_key::PreparedKey;
-pub use raw_key::{KeySize, LEAST_RAW_KEY_BYTES, MOST_RAW_KEY_BYTES, RawKey};
+pub use raw_key::{KeySize, MAX_RAW_KEY_BYTES, MIN_RAW_KEY_BYTES, RawKey};

@@ -5,9 +5,9 @@ ghost use Rattle.byte_words.specs.Bytes.{AreBytes};
 ghost use Rattle.hmac_kdf.specs.Hmac.{hash_sha512};
 ghost use Rattle.hmac_kdf.specs.Hkdf.{extracted};
 
-use crate::draws::{draw_file_key, draw_id, draw_mode_key, extract};
+use crate::derivations::{derive_file_key, derive_id, derive_mode_key, extract};
 use crate::file_keys::{FileKey, KeyKind};
-use crate::raw_key::{LEAST_RAW_KEY_BYTES, MOST_RAW_KEY_BYTES, RawKey};
+use crate::raw_key::{MAX_RAW_KEY_BYTES, MIN_RAW_KEY_BYTES, RawKey};
 use hmac_kdf::Prk512;
 use policy_ctx::KeyId;
 use std::marker::Model;
@@ -42,8 +42,8 @@ impl PreparedKey {
     /// Returns the bytes of the raw key: 32 to 64.
     pub fn bytes(&self) -> &[u8]
         ensures value { result.now ≡ self.now }
-        ensures not_short { LEAST_RAW_KEY_BYTES ≤ length result.now }
-        ensures not_long { length result.now ≤ MOST_RAW_KEY_BYTES }
+        ensures not_short { MIN_RAW_KEY_BYTES ≤ length result.now }
+        ensures not_long { length result.now ≤ MAX_RAW_KEY_BYTES }
         ensures ranged { AreBytes result.now }
     {
         self.raw.bytes()
@@ -53,7 +53,7 @@ impl PreparedKey {
     pub fn id(&self) -> KeyId
         ensures { result ≡ key_id_of self.now }
     {
-        draw_id(&self.prk)
+        derive_id(&self.prk)
     }
 
     /// Returns the key of the file with this nonce, for its contents or for its names.
@@ -62,7 +62,7 @@ impl PreparedKey {
         ensures ranged { AreBytes (key_bytes result) }
     {
         let mut key = FileKey::zeros(kind);
-        draw_file_key(&self.prk, nonce, &mut key);
+        derive_file_key(&self.prk, nonce, &mut key);
         key
     }
 
@@ -72,7 +72,7 @@ impl PreparedKey {
         ensures key { key.new ≡ file_key_of self.now (key_kind key.old) nonce.now }
         ensures ranged { AreBytes (key_bytes key.new) }
     {
-        draw_file_key(&self.prk, nonce, key);
+        derive_file_key(&self.prk, nonce, key);
     }
 
     /// Returns the key that all nodes of this kind share under a policy with a key for each mode.
@@ -81,7 +81,7 @@ impl PreparedKey {
         ensures ranged { AreBytes (key_bytes result) }
     {
         let mut key = FileKey::zeros(kind);
-        draw_mode_key(&self.prk, &mut key);
+        derive_mode_key(&self.prk, &mut key);
         key
     }
 
@@ -90,7 +90,7 @@ impl PreparedKey {
         ensures key { key.new ≡ mode_key_of self.now (key_kind key.old) }
         ensures ranged { AreBytes (key_bytes key.new) }
     {
-        draw_mode_key(&self.prk, key);
+        derive_mode_key(&self.prk, key);
     }
 
     /// Replaces the key by zeros, and what was prepared by what is prepared of them. It is then the key

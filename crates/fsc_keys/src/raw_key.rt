@@ -8,10 +8,10 @@ use std::marker::Model;
 use thiserror::Error;
 
 /// The minimum length of a raw key in bytes: what AES-256 needs.
-pub const LEAST_RAW_KEY_BYTES: usize = 32;
+pub const MIN_RAW_KEY_BYTES: usize = 32;
 
 /// The maximum length of a raw key in bytes, as Linux has it.
-pub const MOST_RAW_KEY_BYTES: usize = 64;
+pub const MAX_RAW_KEY_BYTES: usize = 64;
 
 /// Bytes that are no raw key, since they are fewer than 32 or more than 64.
 #[derive(Clone, Copy, Debug, PartialEq, Eq, Error)]
@@ -23,18 +23,18 @@ pub struct KeySize {
 /// A raw master key of 32 to 64 bytes. It can be wiped, and is never printed.
 #[derive(Drop)]
 pub struct RawKey {
-    bytes: Filled<MOST_RAW_KEY_BYTES>,
+    bytes: Filled<MAX_RAW_KEY_BYTES>,
 }
 
 impl Model for RawKey {
     ghost use Rattle.std.specs.Prelude.{◌≤◌, ℕ, List, length};
-    ghost use Rattle.fsc_keys.specs.declared.raw_key.TheConstants.{LEAST_RAW_KEY_BYTES};
+    ghost use Rattle.fsc_keys.specs.declared.raw_key.TheConstants.{MIN_RAW_KEY_BYTES};
 
     ghost Value = { List ℕ };
 
     ghost view = { λ key. key.bytes };
 
-    ghost invariant = { λ key. LEAST_RAW_KEY_BYTES ≤ length key.bytes };
+    ghost invariant = { λ key. MIN_RAW_KEY_BYTES ≤ length key.bytes };
 }
 
 impl RawKey {
@@ -42,7 +42,7 @@ impl RawKey {
     pub fn read(bytes: &[u8]) -> Result<RawKey, KeySize>
         ensures value { IfOk result (λ key. key ≡ bytes.now) }
         ensures ok_in_range { IsOk result
-            ↔ ((LEAST_RAW_KEY_BYTES ≤ length bytes.now) × (length bytes.now ≤ MOST_RAW_KEY_BYTES)) }
+            ↔ ((MIN_RAW_KEY_BYTES ≤ length bytes.now) × (length bytes.now ≤ MAX_RAW_KEY_BYTES)) }
         ensures refused { IfErr result (λ fault. fault.len ≡ length bytes.now) }
     {
         check_size(bytes)?;
@@ -53,10 +53,10 @@ impl RawKey {
 
     /// Returns the key of 32 zeros: a buffer for another key.
     pub fn zeros() -> RawKey
-        ensures { result ≡ replicate LEAST_RAW_KEY_BYTES 0 }
+        ensures { result ≡ replicate MIN_RAW_KEY_BYTES 0 }
     {
         RawKey {
-            bytes: Filled::of(&[0; LEAST_RAW_KEY_BYTES]),
+            bytes: Filled::of(&[0; MIN_RAW_KEY_BYTES]),
         }
     }
 
@@ -65,7 +65,7 @@ impl RawKey {
     pub fn set(&mut self, bytes: &[u8]) -> Result<(), KeySize>
         ensures value { OnOk result (self.new ≡ bytes.now) }
         ensures ok_in_range { IsOk result
-            ↔ ((LEAST_RAW_KEY_BYTES ≤ length bytes.now) × (length bytes.now ≤ MOST_RAW_KEY_BYTES)) }
+            ↔ ((MIN_RAW_KEY_BYTES ≤ length bytes.now) × (length bytes.now ≤ MAX_RAW_KEY_BYTES)) }
         ensures refused { IfErr result (λ fault. fault.len ≡ length bytes.now) }
         ensures kept { OnErr result (self.new ≡ self.old) }
     {
@@ -84,8 +84,8 @@ impl RawKey {
     /// Returns the bytes of the key.
     pub fn bytes(&self) -> &[u8]
         ensures value { result.now ≡ self.now }
-        ensures not_short { LEAST_RAW_KEY_BYTES ≤ length result.now }
-        ensures not_long { length result.now ≤ MOST_RAW_KEY_BYTES }
+        ensures not_short { MIN_RAW_KEY_BYTES ≤ length result.now }
+        ensures not_long { length result.now ≤ MAX_RAW_KEY_BYTES }
         ensures ranged { AreBytes result.now }
     {
         self.bytes.bytes()
@@ -102,10 +102,10 @@ impl RawKey {
 // Refuses bytes that are too few or too many for a raw key.
 fn check_size(bytes: &[u8]) -> Result<(), KeySize>
     ensures ok_in_range { IsOk result
-        ↔ ((LEAST_RAW_KEY_BYTES ≤ length bytes.now) × (length bytes.now ≤ MOST_RAW_KEY_BYTES)) }
+        ↔ ((MIN_RAW_KEY_BYTES ≤ length bytes.now) × (length bytes.now ≤ MAX_RAW_KEY_BYTES)) }
     ensures refused { IfErr result (λ fault. fault.len ≡ length bytes.now) }
 {
-    if bytes.len() < LEAST_RAW_KEY_BYTES || bytes.len() > MOST_RAW_KEY_BYTES {
+    if bytes.len() < MIN_RAW_KEY_BYTES || bytes.len() > MAX_RAW_KEY_BYTES {
         return Err(KeySize { len: bytes.len() });
     }
     Ok(())

@@ -5,12 +5,12 @@ use Rattle.std.proofs.lemmas.List.Elements.{All-nil, All-cons, All-append, All-h
 use Rattle.std.specs.Io.KnownBytes.{Consumes, Keeps, ReadConsumes}
 use Rattle.fsc_outside.specs.Causes.{HasCause}
 use Rattle.fsc_outside.specs.States.{SourceState}
-use Rattle.fsc_outside.specs.Reads.{ReadCall, AreReads, GaveSome, given_by, read_call}
+use Rattle.fsc_outside.specs.Reads.{ReadCall, AreReads, ReturnsBytes, bytes_of_calls, read_call}
 use Rattle.fsc_outside.specs.Reads.ReadCall.{Gave, Faulted}
-use Rattle.fsc_outside.specs.ReadLaws.{Consumes-on, given_on}
+use Rattle.fsc_outside.specs.ReadLaws.{Consumes-on, bytes_of_more}
 use Rattle.fsc_outside.specs.Input.{EndsReading, LimitsLines}
-use Rattle.fsc_outside.specs.WholeTexts.{GaveWhole}
-use Rattle.fsc_outside.specs.Reading.{CameByReading, most_read}
+use Rattle.fsc_outside.specs.WholeTexts.{ReadToEnd}
+use Rattle.fsc_outside.specs.Reading.{AfterReading, max_read_bytes}
 use Rattle.fsc_outside.specs.declared.input.InputLimits.{InputLimits}
 use Rattle.fsc_outside.specs.declared.input.InputFault.{InputFault}
 use Rattle.fsc_outside.specs.declared.input.InputFault.TheVariants.{ReadFault, TooLong, NoMemory}
@@ -42,31 +42,31 @@ kept_on a b c bytes given kept = subst (Consumes a c) (append-nil bytes) (Consum
 -- ---- many calls
 
 -- calls that each gave something are no more than the bytes
-few_calls : (calls : List ReadCall) → All GaveSome calls → length calls ≤ length (given_by calls)
+few_calls : (calls : List ReadCall) → All ReturnsBytes calls → length calls ≤ length (bytes_of_calls calls)
 few_calls [] each = omega arith
 few_calls (Gave bytes ∷ calls) each =
-    let some : 0 < length bytes = All-head GaveSome (Gave bytes) calls each in
-    let more = few_calls calls (All-tail GaveSome (Gave bytes) calls each) in
-    omega (arith, some, more, length-append bytes (given_by calls))
-few_calls (Faulted ∷ calls) each = absurd (All-head GaveSome Faulted calls each)
+    let some : 0 < length bytes = All-head ReturnsBytes (Gave bytes) calls each in
+    let more = few_calls calls (All-tail ReturnsBytes (Gave bytes) calls each) in
+    omega (arith, some, more, length-append bytes (bytes_of_calls calls))
+few_calls (Faulted ∷ calls) each = absurd (All-head ReturnsBytes Faulted calls each)
 
-module _ {S : Type 0} (came : S → List ReadCall → S → Type 0)
-    (by_more : (first second third : S) (calls more : List ReadCall) → came first calls second → came second more third
-    → came first (calls ++ more) third) where
+module _ {S : Type 0} (after_calls : S → List ReadCall → S → Type 0)
+    (by_more : (first second third : S) (calls more : List ReadCall) → after_calls first calls second → after_calls second more third
+    → after_calls first (calls ++ more) third) where
   -- a reading continues with a call that gave some bytes
   pub reads_on : (first second third : S) (limits : InputLimits) (text piece : List ℕ)
-      → CameByReading limits (λ calls. came first calls second) text [] → came second (Gave piece ∷ []) third → 0 < length piece
-      → length (text ++ piece) ≤ most_read limits → CameByReading limits (λ calls. came first calls third) (text ++ piece) []
+      → AfterReading limits (λ calls. after_calls first calls second) text [] → after_calls second (Gave piece ∷ []) third → 0 < length piece
+      → length (text ++ piece) ≤ max_read_bytes limits → AfterReading limits (λ calls. after_calls first calls third) (text ++ piece) []
   reads_on first second third limits text piece so call some fits =
       let calls : List ReadCall = so.calls ++ Gave piece ∷ [] in
-      let each : All GaveSome calls =
-      All-append GaveSome so.calls (Gave piece ∷ []) so.each (All-cons GaveSome (Gave piece) [] some (All-nil GaveSome)) in
-      let given : given_by calls ≡ text ++ piece =
-      given_on so.calls (Gave piece ∷ []) ∙ ap (λ bytes. bytes ++ (piece ++ [])) so.given ∙ ap (λ bytes. text ++ bytes) (append-nil piece) in
+      let each : All ReturnsBytes calls =
+      All-append ReturnsBytes so.calls (Gave piece ∷ []) so.each (All-cons ReturnsBytes (Gave piece) [] some (All-nil ReturnsBytes)) in
+      let given : bytes_of_calls calls ≡ text ++ piece =
+      bytes_of_more so.calls (Gave piece ∷ []) ∙ ap (λ bytes. bytes ++ (piece ++ [])) so.given ∙ ap (λ bytes. text ++ bytes) (append-nil piece) in
       record {
         calls = calls;
-        came_by = subst (λ made. came first made third) (sym (append-nil calls)) (by_more first second third so.calls (Gave piece ∷ [])
-            (subst (λ made. came first made second) (append-nil so.calls) so.came_by) call);
+        reached_by_call = subst (λ made. after_calls first made third) (sym (append-nil calls)) (by_more first second third so.calls (Gave piece ∷ [])
+            (subst (λ made. after_calls first made second) (append-nil so.calls) so.reached_by_call) call);
         each = each;
         given = given;
         few = omega (arith, few_calls calls each, ap length given, ap length (append-nil calls), fits);
@@ -74,11 +74,11 @@ module _ {S : Type 0} (came : S → List ReadCall → S → Type 0)
 
   -- and ends with one more
   pub reads_last : (first second third : S) (limits : InputLimits) (text : List ℕ) (last : ReadCall)
-      → CameByReading limits (λ calls. came first calls second) text [] → came second (last ∷ []) third
-      → length text ≤ limits.bytes → CameByReading limits (λ calls. came first calls third) text (last ∷ [])
+      → AfterReading limits (λ calls. after_calls first calls second) text [] → after_calls second (last ∷ []) third
+      → length text ≤ limits.bytes → AfterReading limits (λ calls. after_calls first calls third) text (last ∷ [])
   reads_last first second third limits text last so call fits = record {
     calls = so.calls;
-    came_by = by_more first second third so.calls (last ∷ []) (subst (λ made. came first made second) (append-nil so.calls) so.came_by) call;
+    reached_by_call = by_more first second third so.calls (last ∷ []) (subst (λ made. after_calls first made second) (append-nil so.calls) so.reached_by_call) call;
     each = so.each;
     given = so.given;
     few = omega (arith, few_calls so.calls so.each, ap length so.given, length-append so.calls (last ∷ []), fits);
@@ -86,21 +86,21 @@ module _ {S : Type 0} (came : S → List ReadCall → S → Type 0)
 
 -- ---- a whole text
 
-pub whole_ends : (limits : InputLimits) (Came : List ReadCall → Type 0) (old new : SourceState) (text : List ℕ)
-    (result : Result (List ℕ) InputFault) → LimitsLines limits.lines text result → GaveWhole old new text
-    → length text ≤ limits.bytes → new.faults ≡ old.faults → CameByReading limits Came text (Gave [] ∷ [])
-    → EndsReading limits Came old new result
-whole_ends limits Came old new text (Ok same) limited gave short quiet calls =
-    subst (λ xs. EndsReading limits Came old new (Ok xs)) (sym limited.0) (record {
+pub whole_ends : (limits : InputLimits) (AfterReads : List ReadCall → Type 0) (old new : SourceState) (text : List ℕ)
+    (result : Result (List ℕ) InputFault) → LimitsLines limits.lines text result → ReadToEnd old new text
+    → length text ≤ limits.bytes → new.faults ≡ old.faults → AfterReading limits AfterReads text (Gave [] ∷ [])
+    → EndsReading limits AfterReads old new result
+whole_ends limits AfterReads old new text (Ok same) limited gave short quiet calls =
+    subst (λ xs. EndsReading limits AfterReads old new (Ok xs)) (sym limited.0) (record {
       gave = gave;
       within = record { bytes = short; lines = limited.1 };
       quiet = quiet;
       calls = calls;
     })
-whole_ends limits Came old new text (Err TooLong) limited gave short quiet calls = record {
+whole_ends limits AfterReads old new text (Err TooLong) limited gave short quiet calls = record {
   bytes = text;
   gave = inr (record { gave = gave; size = short; lines = limited; calls = calls });
   quiet = quiet;
 }
-whole_ends limits Came old new text (Err ReadFault) limited gave short quiet calls = absurd limited
-whole_ends limits Came old new text (Err NoMemory) limited gave short quiet calls = absurd limited
+whole_ends limits AfterReads old new text (Err ReadFault) limited gave short quiet calls = absurd limited
+whole_ends limits AfterReads old new text (Err NoMemory) limited gave short quiet calls = absurd limited

@@ -15,24 +15,24 @@ read_call piece (Ok count) = Gave (take count piece)
 read_call piece (Err _) = Faulted
 
 -- the bytes that calls gave, together
-abbrev pub given_by : List ReadCall → List ℕ
-given_by [] = []
-given_by (Gave bytes ∷ more) = bytes ++ given_by more
-given_by (Faulted ∷ more) = given_by more
+abbrev pub bytes_of_calls : List ReadCall → List ℕ
+bytes_of_calls [] = []
+bytes_of_calls (Gave bytes ∷ more) = bytes ++ bytes_of_calls more
+bytes_of_calls (Faulted ∷ more) = bytes_of_calls more
 
 -- the count of faults after calls, from the one before them
-abbrev pub faults_behind : List ReadCall → ℕ → ℕ
-faults_behind [] count = count
-faults_behind (Gave bytes ∷ more) count = faults_behind more count
-faults_behind (Faulted ∷ more) count = faults_behind more (one_more count)
+abbrev pub faults_after : List ReadCall → ℕ → ℕ
+faults_after [] count = count
+faults_after (Gave bytes ∷ more) count = faults_after more count
+faults_after (Faulted ∷ more) count = faults_after more (one_more count)
 
 -- a call that gave at least a byte: it didn't fail, and neither was it at the end nor was its piece empty
-abbrev pub GaveSome : ReadCall → Type 0
-GaveSome (Gave bytes) = 0 < length bytes
-GaveSome Faulted = ⊥
+abbrev pub ReturnsBytes : ReadCall → Type 0
+ReturnsBytes (Gave bytes) = 0 < length bytes
+ReturnsBytes Faulted = ⊥
 
 -- how calls change a source: the bytes that they gave are no longer left, if those left are known, and
 -- each call that failed is counted
 pub record AreReads (old : SourceState) (calls : List ReadCall) (new : SourceState) : Type 0 where
-  pub bytes : Consumes old.left new.left (given_by calls)
-  pub faults : new.faults ≡ faults_behind calls old.faults
+  pub bytes : Consumes old.left new.left (bytes_of_calls calls)
+  pub faults : new.faults ≡ faults_after calls old.faults

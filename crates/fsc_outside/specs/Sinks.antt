@@ -17,8 +17,8 @@ abbrev pub RefusesNext : Tank → ℕ → Type 0
 RefusesNext tank count = Contains tank.fails tank.calls ⊎ ((0 < count) × (tank.room ≤ length tank.got))
 
 -- how many of `count` bytes the next call takes
-abbrev pub next_taken : Tank → ℕ → ℕ
-next_taken tank count = min (min tank.piece count) (tank.room - length tank.got)
+abbrev pub next_accepted : Tank → ℕ → ℕ
+next_accepted tank count = min (min tank.piece count) (tank.room - length tank.got)
 
 -- after a call that failed
 abbrev pub failed_write : Tank → Tank

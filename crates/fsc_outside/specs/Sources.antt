@@ -22,16 +22,16 @@ abbrev pub next_count : Feed → ℕ → ℕ
 next_count feed room = min (min feed.piece room) (length feed.left)
 
 -- after a call that failed
-abbrev pub failed_read : Feed → Feed
-failed_read feed = record feed { calls = one_more feed.calls; faults = one_more feed.faults }
+abbrev pub after_failure : Feed → Feed
+after_failure feed = record feed { calls = one_more feed.calls; faults = one_more feed.faults }
 
 -- after a call that gave n bytes
 abbrev pub after_read : Feed → ℕ → Feed
 after_read feed n = record feed { left = drop n feed.left; calls = one_more feed.calls }
 
 -- what is known of it
-abbrev pub fed : Feed → SourceState
-fed feed = source_state (Some feed.left) feed.faults
+abbrev pub state_of_feed : Feed → SourceState
+state_of_feed feed = source_state (Some feed.left) feed.faults
 
 -- the count of calls after these calls, from the one before them
 abbrev pub calls_after : List ReadCall → ℕ → ℕ
@@ -40,7 +40,7 @@ calls_after (call ∷ more) count = calls_after more (one_more count)
 
 -- how calls change a source in memory: as they change any source, and each call is counted
 pub record AreFeeds (old : Feed) (calls : List ReadCall) (new : Feed) : Type 0 where
-  pub reads : AreReads (fed old) calls (fed new)
+  pub reads : AreReads (state_of_feed old) calls (state_of_feed new)
   pub counted : new.calls ≡ calls_after calls old.calls
 
 -- what is known of a source of these bytes that never fails

@@ -10,7 +10,7 @@ use text_words::line_count;
 use thiserror::Error;
 
 /// The maximal number of bytes that one call asks for.
-const MOST_AT_ONCE: usize = 4_096;
+const MAX_AT_ONCE: usize = 4_096;
 
 /// The maximal numbers of bytes and of lines of an input. A last piece without a line feed counts as a
 /// line.
@@ -56,13 +56,13 @@ pub fn read_all<S: Source>(
     limits: InputLimits,
 ) -> Result<Bytes, InputFault>
     requires { limits.bytes < usize.MAX }
-    ensures { EndsReading limits (λ calls. S.came source.old calls source.new) (S.state source.old)
+    ensures { EndsReading limits (λ calls. S.after_calls source.old calls source.new) (S.state source.old)
         (S.state source.new) result }
 {
     let mut text = Vec::new(alloc);
     'reading: while text.len() <= limits.bytes {
-        let mut piece = [0; MOST_AT_ONCE];
-        let room = (limits.bytes + 1 - text.len()).min(MOST_AT_ONCE);
+        let mut piece = [0; MAX_AT_ONCE];
+        let room = (limits.bytes + 1 - text.len()).min(MAX_AT_ONCE);
         let room = &mut piece[..room];
         let count = match source.read(room) {
             Ok(count) => count,

@@ -6,7 +6,7 @@ ghost use Rattle.std.specs.Io.{WritesAtMost};
 ghost use Rattle.std.specs.Io.KnownBytes.{WriteAppends};
 ghost use Rattle.fsc_outside.specs.Causes.{HasCause};
 ghost use Rattle.fsc_outside.specs.States.{SinkState};
-ghost use Rattle.fsc_outside.specs.Sinks.{Tank, RefusesNext, next_taken, failed_write, after_write};
+ghost use Rattle.fsc_outside.specs.Sinks.{Tank, RefusesNext, next_accepted, failed_write, after_write};
 
 use crate::{CallList, Failed, is_listed};
 use std::alloc::{AllocError, Global};
@@ -101,7 +101,7 @@ impl Sink for MemSink {
         ensures cause { HasCause self.old.faults self.new.faults result }
         ensures fails { IsErr result ↔ RefusesNext self.old (length piece.now) }
         ensures failed { OnErr result (self.new ≡ failed_write self.old) }
-        ensures took { IfOk result (λ n. (n ≡ next_taken self.old (length piece.now))
+        ensures took { IfOk result (λ n. (n ≡ next_accepted self.old (length piece.now))
             × (self.new ≡ after_write self.old piece.now n)) }
     {
         let call = self.calls;

@@ -8,20 +8,20 @@ ghost use Rattle.fsc_outside.specs.Causes.{HasCause};
 ghost use Rattle.fsc_outside.specs.States.{SourceState};
 ghost use Rattle.fsc_outside.specs.Reads.{ReadCall, AreReads, read_call};
 ghost use Rattle.fsc_outside.specs.ReadLaws.{AreReads-none, AreReads-on, AreFeeds-none, AreFeeds-on};
-ghost use Rattle.fsc_outside.specs.Sources.{Feed, AreFeeds, FailsNext, next_count, failed_read, after_read};
-ghost use Rattle.fsc_outside.specs.Sources.{fed, steady};
+ghost use Rattle.fsc_outside.specs.Sources.{Feed, AreFeeds, FailsNext, next_count, after_failure, after_read};
+ghost use Rattle.fsc_outside.specs.Sources.{state_of_feed, steady};
 
 use crate::{CallList, Failed, is_listed};
 use std::marker::Model;
 
 /// A source of bytes. In contracts its state is the bytes that are left, if they are known, and how often
-/// a call failed; `came` relates two states by the calls between them.
+/// a call failed; `after_calls` relates two states by the calls between them.
 pub trait Source {
     /// What is known of it now. Its count never falls.
     ghost state: { Self → SourceState };
 
     /// These calls, one after another, change the first source to the second.
-    ghost came: { Self → List ReadCall → Self → Type 0 };
+    ghost after_calls: { Self → List ReadCall → Self → Type 0 };
 
     /// Writes the next bytes to the beginning of `piece` and returns how many. 0 for a nonempty `piece`
     /// means the end.
@@ -29,14 +29,14 @@ pub trait Source {
         ensures bound { ReadsAtMost result piece.new }
         ensures bytes { ReadConsumes (state self.old).left (state self.new).left result piece.new }
         ensures cause { HasCause (state self.old).faults (state self.new).faults result }
-        ensures came { came self.old (read_call piece.new result ∷ []) self.new };
+        ensures after_calls { after_calls self.old (read_call piece.new result ∷ []) self.new };
 
     /// An empty list of calls relates each source to itself.
-    ghost by_none: { (source : Self) → came source [] source };
+    ghost by_none: { (source : Self) → after_calls source [] source };
 
     /// Two lists of calls, one after the other, relate the first source to the last.
     ghost by_more: { (first second third : Self) (calls more : List ReadCall)
-        → came first calls second → came second more third → came first (calls ++ more) third };
+        → after_calls first calls second → after_calls second more third → after_calls first (calls ++ more) third };
 }
 
 /// A source in memory that gives pieces, and fails at the calls that are listed. In clauses it is a
@@ -88,9 +88,9 @@ impl MemSource {
 }
 
 impl Source for MemSource {
-    ghost state = { fed };
+    ghost state = { state_of_feed };
 
-    ghost came = { AreFeeds };
+    ghost after_calls = { AreFeeds };
 
     ghost by_none = { AreFeeds-none };
 
@@ -100,9 +100,9 @@ impl Source for MemSource {
         ensures bound { ReadsAtMost result piece.new }
         ensures bytes { ReadConsumes (Some self.old.left) (Some self.new.left) result piece.new }
         ensures cause { HasCause self.old.faults self.new.faults result }
-        ensures came { AreFeeds self.old (read_call piece.new result ∷ []) self.new }
+        ensures after_calls { AreFeeds self.old (read_call piece.new result ∷ []) self.new }
         ensures fails { IsErr result ↔ FailsNext self.old }
-        ensures failed { OnErr result (self.new ≡ failed_read self.old) }
+        ensures failed { OnErr result (self.new ≡ after_failure self.old) }
         ensures gave { IfOk result (λ n. (n ≡ next_count self.old (length piece.old))
             × (self.new ≡ after_read self.old n)) }
     {
@@ -145,7 +145,7 @@ impl SteadySource {
 impl Source for SteadySource {
     ghost state = { steady };
 
-    ghost came = { λ old calls new. AreReads (steady old) calls (steady new) };
+    ghost after_calls = { λ old calls new. AreReads (steady old) calls (steady new) };
 
     ghost by_none = { λ s. AreReads-none (steady s) };
 
@@ -155,7 +155,7 @@ impl Source for SteadySource {
         ensures bound { ReadsAtMost result piece.new }
         ensures bytes { ReadConsumes (Some self.old) (Some self.new) result piece.new }
         ensures cause { HasCause 0 0 result }
-        ensures came { AreReads (steady self.old) (read_call piece.new result ∷ []) (steady self.new) }
+        ensures after_calls { AreReads (steady self.old) (read_call piece.new result ∷ []) (steady self.new) }
         ensures gave { result ≡ Ok (min (length piece.old) (length self.old)) }
     {
         let count = give(&self.bytes[self.at..], usize::MAX, piece);

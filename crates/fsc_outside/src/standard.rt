@@ -44,7 +44,7 @@ impl StdSource<Stdin> {
 impl<R: Read + Drop> Source for StdSource<R> {
     ghost state = { λ s. source_state (R.remaining s.0) s.1 };
 
-    ghost came = { λ old calls new. AreReads (source_state (R.remaining old.0) old.1) calls
+    ghost after_calls = { λ old calls new. AreReads (source_state (R.remaining old.0) old.1) calls
         (source_state (R.remaining new.0) new.1) };
 
     ghost by_none = { λ s. AreReads-none (source_state (R.remaining s.0) s.1) };

@@ -10,17 +10,17 @@ use Rattle.mount_model.specs.declared.reply.Refusal.TheVariants as refusal
 use Rattle.mount_model.specs.declared.reply.Refusal.TheVariants.{NoMemory}
 use Rattle.mount_model.specs.PlainMount.{PlainMount}
 use Rattle.mount_model.specs.Answer.{answer_of}
-use Rattle.mount_model.specs.History.{History, MountEntry, IsLegalFrom, NeverWantsMemory, mount_left, is_want_of_memory}
+use Rattle.mount_model.specs.History.{History, MountEntry, IsLegalFrom, NeverOutOfMemory, mount_after_entry, is_out_of_memory}
 use Rattle.mount_model.proofs.StepLemmas.{answered-step}
 use Rattle.fsc_commands.specs.Steps.{Steps, Reaches, next_of}
 use Rattle.fsc_commands.specs.Steps.Steps.{Done, Ask}
 use Rattle.fsc_session.specs.Session.{AreNextCalls}
-use Rattle.fsc_session.specs.Serial.{played}
+use Rattle.fsc_session.specs.Serial.{serial_entries}
 
-abbrev IsGiven : MountEntry → Type 0
-IsGiven e = e.reply ≢ Refused NoMemory
+abbrev HadMemory : MountEntry → Type 0
+HadMemory e = e.reply ≢ Refused NoMemory
 
-pub given_reply : (reply : Reply) → reply ≢ Refused NoMemory → is_want_of_memory reply ≡ false
+pub given_reply : (reply : Reply) → reply ≢ Refused NoMemory → is_out_of_memory reply ≡ false
 given_reply (reply.Added id) h = refl
 given_reply (reply.Removed others busy) h = refl
 given_reply (reply.Status state by_self users) h = refl
@@ -56,18 +56,18 @@ pub left_when_given : (m after : PlainMount) (want : Bool) → want ≡ false �
 left_when_given m after want h = rw h refl
 
 pub played_from : {A : Type 0} (m : PlainMount) (steps : Steps A) (h : History) (value : A) → Reaches steps h (Done value)
-    → IsLegalFrom m h → NeverWantsMemory h → h ≡ played m steps
-played_from m steps [] value so legal never = sym (ap (played m) so)
+    → IsLegalFrom m h → NeverOutOfMemory h → h ≡ serial_entries m steps
+played_from m steps [] value so legal never = sym (ap (serial_entries m) so)
 played_from m (Done other) (e ∷ es) value so legal never = absurd so
 played_from m (Ask who call next) (e ∷ es) value so legal never =
-    let given = All-head IsGiven e es never in
+    let given = All-head HadMemory e es never in
     let same : e.reply ≡ (answer_of m e.who e.call).reply = answered-step m e _ legal.0 given in
-    let left : mount_left m e ≡ (answer_of m e.who e.call).mount = left_when_given m _ _ (given_reply e.reply given) in
-    let rest : es ≡ played (mount_left m e) (next e.reply) = played_from (mount_left m e) (next e.reply) es value so.2 legal.1 (All-tail IsGiven e es never) in
-    ap (λ (es : History). e ∷ es) (rest ∙ ap (λ (n : PlainMount). played n (next e.reply)) left)
-    ∙ ap (λ (r : Reply). entry e.who e.call r ∷ played (answer_of m e.who e.call).mount (next r)) same
-    ∙ ap (λ (who : ℕ). entry who e.call (answer_of m who e.call).reply ∷ played (answer_of m who e.call).mount (next (answer_of m who e.call).reply)) so.0
-    ∙ ap (λ (call : Call). entry who call (answer_of m who call).reply ∷ played (answer_of m who call).mount (next (answer_of m who call).reply)) so.1
+    let left : mount_after_entry m e ≡ (answer_of m e.who e.call).mount = left_when_given m _ _ (given_reply e.reply given) in
+    let rest : es ≡ serial_entries (mount_after_entry m e) (next e.reply) = played_from (mount_after_entry m e) (next e.reply) es value so.2 legal.1 (All-tail HadMemory e es never) in
+    ap (λ (es : History). e ∷ es) (rest ∙ ap (λ (n : PlainMount). serial_entries n (next e.reply)) left)
+    ∙ ap (λ (r : Reply). entry e.who e.call r ∷ serial_entries (answer_of m e.who e.call).mount (next r)) same
+    ∙ ap (λ (who : ℕ). entry who e.call (answer_of m who e.call).reply ∷ serial_entries (answer_of m who e.call).mount (next (answer_of m who e.call).reply)) so.0
+    ∙ ap (λ (call : Call). entry who call (answer_of m who call).reply ∷ serial_entries (answer_of m who call).mount (next (answer_of m who call).reply)) so.1
 
 -- ---- each entry makes the next call
 

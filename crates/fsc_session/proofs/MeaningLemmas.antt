@@ -2,7 +2,7 @@
 use Rattle.std.proofs.Common.{◌≡◌, ◌≢◌, ℕ, ◌+◌, Bool, true, false, cond, List, [], ◌∷◌, map, drop, get_or, Some, None, Option, refl, ap, sym, ◌∙◌, subst, eq-eqb, ne_eqb, ⊎_elim}
 use Rattle.std.specs.Prelude.{◌==◌, filter, slice_get}
 use Rattle.std.proofs.lemmas.Bool.{cases_eq}
-use Rattle.call_history.specs.Entries.{by, numbered}
+use Rattle.call_history.specs.Entries.{by, entries_with_places}
 use Rattle.call_history.specs.Placed.{entries_of}
 use Rattle.call_history.proofs.Placing.{map-numbered}
 use Rattle.mount_model.specs.declared.call.Call.{Call}
@@ -17,7 +17,7 @@ use Rattle.fsc_commands.specs.Steps.{Steps, Reaches}
 use Rattle.fsc_commands.specs.Steps.Steps.{Done, Ask}
 use Rattle.fsc_session.specs.Session.{section_steps}
 use Rattle.fsc_session.specs.ScriptRun.{IsRunOf, IsRunOfCaller, notes_of}
-use Rattle.fsc_session.specs.Meaning.{IsBegunBy, Follows, WhatIsToldDeterminesTheHistory, LogsHaveOneMeaning}
+use Rattle.fsc_session.specs.Meaning.{IsBegunBy, Follows, LogDeterminesTheHistory, LogsHaveOneMeaning}
 
 abbrev replies : History → List Reply
 replies es = map (λ e. e.reply) es
@@ -53,9 +53,9 @@ same_entries {A} (Ask who call next) rest last (e ∷ es) (f ∷ fs) so to same 
 abbrev own : ℕ → History → History
 own c h = filter (λ e. e.who == c) h
 
-own-entries : (c k : ℕ) (h : History) → entries_of (by c (numbered k h)) ≡ own c h
+own-entries : (c k : ℕ) (h : History) → entries_of (by c (entries_with_places k h)) ≡ own c h
 own-entries c k [] = refl
-own-entries c k (e ∷ h) = chosen (e.who == c) (by c (numbered (k + 1) h)) (own c h) (own-entries c (k + 1) h)
+own-entries c k (e ∷ h) = chosen (e.who == c) (by c (entries_with_places (k + 1) h)) (own c h) (own-entries c (k + 1) h)
   where
     chosen : (b : Bool) (xs : PlacedCalls) (ys : History) → entries_of xs ≡ ys → entries_of (cond b ((k, e) ∷ xs) xs) ≡ cond b (e ∷ ys) ys
     chosen true xs ys same = ap (λ (l : History). e ∷ l) same
@@ -115,7 +115,7 @@ same_begun seed c None xs ys so to same = ap entries_of (so ∙ sym to)
 same_begun seed c (Some section) xs ys so to same =
     same_entries (section_steps seed c section) so.0 to.0 (entries_of xs) (entries_of ys) so.1 to.1 same
 
-pub told_determines : WhatIsToldDeterminesTheHistory
+pub told_determines : LogDeterminesTheHistory
 told_determines seed script g h so to same = same_history g h (told_callers g h same) (λ c.
     let mine : entries_of (entries_by c g) ≡ own c g = own-entries c 0 g in
     let other : entries_of (entries_by c h) ≡ own c h = own-entries c 0 h in

@@ -5,7 +5,7 @@ use Rattle.std.proofs.Math.Seq.{drop-cons}
 use Rattle.std.proofs.lemmas.Option.{slice_get_within, get_or_from_slice_get, slice_get_cases, slice_get_read}
 use Rattle.std.proofs.lemmas.Bool.{cases_Bool, leb-true, leb-false}
 use Rattle.std.proofs.lemmas.List.Elements.{All-get_or}
-use Rattle.script_lang.specs.Asked.{IsAskable}
+use Rattle.script_lang.specs.CommandTasks.{IsAskable}
 use Rattle.script_lang.specs.declared.commands.Section.{Section}
 use Rattle.script_lang.specs.declared.commands.Command.{Command}
 use Rattle.mount_model.specs.Port.{PlacedCalls}
@@ -16,14 +16,14 @@ use Rattle.fsc_session.specs.Asking.{AsksRightly}
 use Rattle.fsc_commands.specs.Commands.{command_steps}
 use Rattle.reply_text.specs.declared.notes.Note.{Note}
 use Rattle.reply_text.specs.declared.outcome.Outcome.{Outcome}
-use Rattle.fsc_session.specs.Session.{steps_from, section_steps, noted, notes_of_section, IsRunOfSection, IsRunSoFar}
-use Rattle.reply_text.specs.Shown.{PlacedShown, shown_calls}
-use Rattle.fsc_session.specs.Running.{Stepped, StepMakes}
-use Rattle.fsc_session.specs.PortRuns.{RanSoFar}
+use Rattle.fsc_session.specs.Session.{steps_from, section_steps, notes_of_command, notes_of_section, IsRunOfSection, IsRunSoFar}
+use Rattle.reply_text.specs.Logged.{PlacedLogged, logged_calls}
+use Rattle.fsc_session.specs.Running.{RunnerStep, StepMakes}
+use Rattle.fsc_session.specs.PortRuns.{RunSoFar}
 use Rattle.fsc_session.specs.Runners.{RunnerView, runner_view}
-use Rattle.fsc_commands.specs.Made.{Made}
-use Rattle.fsc_commands.specs.declared.TheConstants.{MOST_CALLS}
-use Rattle.fsc_commands.proofs.StepsLemmas.{entries_of-append, names_in-append, names_in-shown, shown_calls-append, Reaches-on, Reaches-and_then, value_reached}
+use Rattle.fsc_commands.specs.MadeCalls.{MadeCalls}
+use Rattle.fsc_commands.specs.declared.TheConstants.{MAX_CALLS}
+use Rattle.fsc_commands.proofs.StepsLemmas.{entries_of-append, names_in-append, names_in-shown, logged_calls-append, Reaches-on, Reaches-and_then, value_reached}
 
 pub drop-at : {A : Type 0} (n : ℕ) (xs : List A) (x : A) → slice_get xs n ≡ Some x → drop n xs ≡ x ∷ drop (n + 1) xs
 drop-at {A} n xs x here =
@@ -36,15 +36,15 @@ drop-at {A} n xs x here =
 pub run_goes_on : (seed : List ℕ) (caller : ℕ) (section : Section) (n : ℕ) (command : Command) (placed made : PlacedCalls) (notes : List Note) (outcome : Option Outcome)
     → IsRunSoFar seed caller section n placed notes → slice_get section.commands n ≡ Some command
     → Reaches (command_steps seed caller section.uid n (names_in placed) command.verb) (entries_of made) (Done outcome)
-    → IsRunSoFar seed caller section (n + 1) (placed ++ made) (notes ++ noted caller command outcome)
+    → IsRunSoFar seed caller section (n + 1) (placed ++ made) (notes ++ notes_of_command caller command outcome)
 run_goes_on seed caller section n command placed made notes outcome so here more =
     let uid = section.uid in
     let names = names_in placed in
-    let after = notes ++ noted caller command outcome in
+    let after = notes ++ notes_of_command caller command outcome in
     let then_it : Reaches (steps_from seed caller uid n names notes (command ∷ drop (n + 1) section.commands)) (entries_of made)
     (steps_from seed caller uid (n + 1) (names_from names (entries_of made)) after (drop (n + 1) section.commands)) =
     Reaches-and_then names (command_steps seed caller uid n names command.verb)
-    (λ told outcome. steps_from seed caller uid (n + 1) told (notes ++ noted caller command outcome) (drop (n + 1) section.commands)) (entries_of made) outcome more in
+    (λ told outcome. steps_from seed caller uid (n + 1) told (notes ++ notes_of_command caller command outcome) (drop (n + 1) section.commands)) (entries_of made) outcome more in
     let whole = Reaches-on (section_steps seed caller section) (steps_from seed caller uid n names notes (drop n section.commands)) _ (entries_of placed) (entries_of made) so
     (subst (λ (rest : List Command). Reaches (steps_from seed caller uid n names notes rest) (entries_of made)
     (steps_from seed caller uid (n + 1) (names_from names (entries_of made)) after (drop (n + 1) section.commands))) (sym (drop-at n section.commands command here)) then_it) in
@@ -73,14 +73,14 @@ asked_there section n command asked here =
     (slice_get_within section.commands n command here) asked)
 
 -- a command that was made is a step of its runner
-pub stepped : {P : Type 0} (came : PlacedCalls → P → Type 0) (port : P) (left before_left : ℕ) (seed : List ℕ) (command : Command) (outcome : Option Outcome)
-    (caller : ℕ) (section : Section) (n : ℕ) (entries entries' : PlacedShown) (notes notes' : List Note) → slice_get section.commands n ≡ Some command
-    → notes' ≡ notes ++ noted caller command outcome
-    → Made came port left before_left MOST_CALLS (command_steps seed caller section.uid n (names_in entries) command.verb) outcome entries entries'
-    → Stepped came port left before_left seed true (runner_view caller section n entries notes) (runner_view caller section (n + 1) entries' notes')
-stepped came port left before_left seed command outcome caller section n entries entries' notes notes' here noting made = record {
+pub stepped : {P : Type 0} (after_calls : PlacedCalls → P → Type 0) (port : P) (left before_left : ℕ) (seed : List ℕ) (command : Command) (outcome : Option Outcome)
+    (caller : ℕ) (section : Section) (n : ℕ) (entries entries' : PlacedLogged) (notes notes' : List Note) → slice_get section.commands n ≡ Some command
+    → notes' ≡ notes ++ notes_of_command caller command outcome
+    → MadeCalls after_calls port left before_left MAX_CALLS (command_steps seed caller section.uid n (names_in entries) command.verb) outcome entries entries'
+    → RunnerStep after_calls port left before_left seed true (runner_view caller section n entries notes) (runner_view caller section (n + 1) entries' notes')
+stepped after_calls port left before_left seed command outcome caller section n entries entries' notes notes' here noting made = record {
   made = made.made;
-  came_by = made.came_by;
+  reached_by_call = made.reached_by_call;
   grown = made.grown;
   few = made.few;
   counted = made.counted;
@@ -88,11 +88,11 @@ stepped came port left before_left seed command outcome caller section n entries
   section = refl;
   step = (command, here, refl, (outcome, made.follows, noting));
   run = λ placed so. record {
-    shown = made.grown ∙ ap (λ (l : PlacedShown). l ++ shown_calls made.made) so.shown ∙ sym (shown_calls-append placed made.made);
+    shown = made.grown ∙ ap (λ (l : PlacedLogged). l ++ logged_calls made.made) so.shown ∙ sym (logged_calls-append placed made.made);
     run = subst (λ (ns : List Note). IsRunSoFar seed caller section (n + 1) (placed ++ made.made) ns) (sym noting)
         (run_goes_on seed caller section n command placed made.made notes outcome so.run here
         (subst (λ (names : List (List ℕ)). Reaches (command_steps seed caller section.uid n names command.verb) (entries_of made.made) (Done outcome))
-        (ap (λ (l : PlacedShown). names_in l) so.shown ∙ names_in-shown placed) made.follows));
+        (ap (λ (l : PlacedLogged). names_in l) so.shown ∙ names_in-shown placed) made.follows));
   };
 }
 
@@ -115,18 +115,18 @@ notes_are_whole seed caller section n placed notes all so =
 -- ---- what a caller's steps add up to
 
 -- by one step more
-pub so_far_goes_on : {P : Type 0} (came : P → PlacedCalls → P → Type 0)
-    (by_more : (first second third : P) (e f : PlacedCalls) → came first e second → came second f third → came first (e ++ f) third)
+pub so_far_goes_on : {P : Type 0} (after_calls : P → PlacedCalls → P → Type 0)
+    (by_more : (first second third : P) (e f : PlacedCalls) → after_calls first e second → after_calls second f third → after_calls first (e ++ f) third)
     (first second third : P) (left between before_left : ℕ) (seed : List ℕ) (more : Bool) (old new : RunnerView)
-    → RanSoFar (came first) second between before_left seed old → Stepped (came second) third left between seed more old new
-    → RanSoFar (came first) third left before_left seed new
-so_far_goes_on came by_more first second third left between before_left seed more old new so made =
+    → RunSoFar (after_calls first) second between before_left seed old → RunnerStep (after_calls second) third left between seed more old new
+    → RunSoFar (after_calls first) third left before_left seed new
+so_far_goes_on after_calls by_more first second third left between before_left seed more old new so made =
     let counted = so.counted in
     let counted' = made.counted in
     let sum = length-append so.placed made.made in
     record {
       placed = so.placed ++ made.made;
-      came_by = by_more first second third so.placed made.made so.came_by made.came_by;
+      reached_by_call = by_more first second third so.placed made.made so.reached_by_call made.reached_by_call;
       has_run = made.run so.placed so.has_run;
       counted = omega (arith, counted, counted', sum);
     }

@@ -6,27 +6,27 @@ use Rattle.mount_model.specs.History.{History}
 use Rattle.mount_model.specs.Port.{PlacedCalls}
 use Rattle.script_lang.specs.declared.commands.Section.{Section}
 use Rattle.script_lang.specs.declared.commands.Command.{Command}
-use Rattle.reply_text.specs.Shown.{PlacedShown}
+use Rattle.reply_text.specs.Logged.{PlacedLogged}
 use Rattle.reply_text.specs.declared.notes.Note.{Note}
 use Rattle.reply_text.specs.declared.outcome.Outcome.{Outcome}
 use Rattle.fsc_commands.specs.Steps.{Steps, Reaches, names_from, names_in, and_then}
 use Rattle.fsc_commands.specs.Commands.{command_steps}
 use Rattle.fsc_commands.specs.CommandSteps.{CommandSteps}
-use Rattle.fsc_commands.specs.Made.{Begun}
+use Rattle.fsc_commands.specs.MadeCalls.{Begun}
 use Rattle.fsc_commands.proofs.StepsLemmas.{entries_of-append, names_in-shown, Reaches-on, Reaches-begun}
 use Rattle.fsc_session.specs.Meaning.{IsBegunBy}
 use Rattle.fsc_session.specs.Runners.{RunnerView, HasRun, runner_view}
-use Rattle.fsc_session.specs.Session.{steps_from, section_steps, noted}
+use Rattle.fsc_session.specs.Session.{steps_from, section_steps, notes_of_command}
 use Rattle.fsc_session.specs.Stopping.{steps_of, next_steps}
 use Rattle.fsc_session.proofs.RunLemmas.{drop-at}
 
 -- a beginning of the command at that number is one of the runner's next
-pub next_begun : {P : Type 0} {came : PlacedCalls → P → Type 0} {port : P} {most : ℕ} (seed : List ℕ) (command : Command)
-    (caller : ℕ) (section : Section) (n : ℕ) (entries : PlacedShown) (notes : List Note) → slice_get section.commands n ≡ Some command
-    → Begun came port most (command_steps seed caller section.uid n (names_in entries) command.verb)
-    → Begun came port most (next_steps seed (runner_view caller section n entries notes))
-next_begun {came = came} {port = port} {most = most} seed command caller section n entries notes here begun =
-    subst (λ (at : Option Command). Begun came port most (steps_of seed (runner_view caller section n entries notes) at)) (sym here) begun
+pub next_begun : {P : Type 0} {after_calls : PlacedCalls → P → Type 0} {port : P} {most : ℕ} (seed : List ℕ) (command : Command)
+    (caller : ℕ) (section : Section) (n : ℕ) (entries : PlacedLogged) (notes : List Note) → slice_get section.commands n ≡ Some command
+    → Begun after_calls port most (command_steps seed caller section.uid n (names_in entries) command.verb)
+    → Begun after_calls port most (next_steps seed (runner_view caller section n entries notes))
+next_begun {after_calls = after_calls} {port = port} {most = most} seed command caller section n entries notes here begun =
+    subst (λ (at : Option Command). Begun after_calls port most (steps_of seed (runner_view caller section n entries notes) at)) (sym here) begun
 
 command_begun : (seed : List ℕ) (runner : RunnerView) (told made : PlacedCalls) (rest : CommandSteps) (command : Command) → HasRun seed runner told
     → slice_get runner.section.commands runner.next ≡ Some command → Reaches (steps_of seed runner (Some command)) (entries_of made) rest
@@ -38,11 +38,11 @@ command_begun seed runner told made rest command has here so =
     let notes = runner.notes in
     let names = names_in told in
     let next : List (List ℕ) → Option Outcome → Steps (List Note) =
-    λ told outcome. steps_from seed caller section.uid (n + 1) told (notes ++ noted caller command outcome) (drop (n + 1) section.commands) in
+    λ told outcome. steps_from seed caller section.uid (n + 1) told (notes ++ notes_of_command caller command outcome) (drop (n + 1) section.commands) in
     let steps : List (List ℕ) → CommandSteps = λ names. command_steps seed caller section.uid n names command.verb in
     let after = and_then (names_from names (entries_of made)) rest next in
     let first : Reaches (steps names) (entries_of made) rest =
-    subst (λ (ns : List (List ℕ)). Reaches (steps ns) (entries_of made) rest) (ap (λ (l : PlacedShown). names_in l) has.shown ∙ names_in-shown told) so in
+    subst (λ (ns : List (List ℕ)). Reaches (steps ns) (entries_of made) rest) (ap (λ (l : PlacedLogged). names_in l) has.shown ∙ names_in-shown told) so in
     let behind : Reaches (steps_from seed caller section.uid n names notes (drop n section.commands)) (entries_of made) after =
     subst (λ (left : List Command). Reaches (steps_from seed caller section.uid n names notes left) (entries_of made) after) (sym (drop-at n section.commands command here))
     (Reaches-begun names (steps names) rest next (entries_of made) first) in (

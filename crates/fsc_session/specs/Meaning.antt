@@ -27,8 +27,8 @@ Follows seed script history =
     (caller : ℕ) → IsBegunBy seed caller (slice_get script caller) (entries_by caller history)
 
 -- a history that follows a script is determined by the values that its lines contain
-abbrev pub WhatIsToldDeterminesTheHistory : Type 0
-WhatIsToldDeterminesTheHistory =
+abbrev pub LogDeterminesTheHistory : Type 0
+LogDeterminesTheHistory =
     (seed : List ℕ) (script : List Section) (g h : History) → Follows seed script g → Follows seed script h
     → map told g ≡ map told h → g ≡ h
 

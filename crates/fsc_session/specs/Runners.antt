@@ -2,7 +2,7 @@
 use Rattle.std.specs.Prelude.{◌≡◌, ℕ, Bool, false, List, length, Option, Some, None, nat_lt, if◌then◌else◌}
 use Rattle.mount_model.specs.Port.{PlacedCalls}
 use Rattle.script_lang.specs.declared.commands.Section.{Section}
-use Rattle.reply_text.specs.Shown.{PlacedShown, shown_calls}
+use Rattle.reply_text.specs.Logged.{PlacedLogged, logged_calls}
 use Rattle.reply_text.specs.declared.notes.Note.{Note}
 use Rattle.fsc_commands.specs.Steps.{names_in}
 use Rattle.fsc_session.specs.Session.{IsRunSoFar}
@@ -14,12 +14,12 @@ pub record RunnerView : Type 0 where
   pub caller : ℕ
   pub section : Section
   pub next : ℕ
-  pub entries : PlacedShown
+  pub entries : PlacedLogged
   pub notes : List Note
   pub spent : Bool
 
 -- one that is not spent
-abbrev pub runner_view : ℕ → Section → ℕ → PlacedShown → List Note → RunnerView
+abbrev pub runner_view : ℕ → Section → ℕ → PlacedLogged → List Note → RunnerView
 runner_view caller section next entries notes =
     record {
       caller = caller;
@@ -41,7 +41,7 @@ next_command runner = if nat_lt runner.next (length runner.section.commands) the
 -- these calls are a run of the commands before its next, with this seed; it has what is shown of them,
 -- and that run's notes
 pub record HasRun (seed : List ℕ) (runner : RunnerView) (placed : PlacedCalls) : Type 0 where
-  pub shown : runner.entries ≡ shown_calls placed
+  pub shown : runner.entries ≡ logged_calls placed
   pub run : IsRunSoFar seed runner.caller runner.section runner.next placed runner.notes
 
 -- the runner between two turns

@@ -1,6 +1,6 @@
 -- A run of a script: each caller's entries are a run of its section; and the notes of such a run.
 use Rattle.std.specs.Prelude.{◌≡◌, ℕ, ◌+◌, List, [], ◌∷◌, ◌++◌, slice_get, Option, Some, None}
-use Rattle.call_history.specs.Entries.{by, numbered}
+use Rattle.call_history.specs.Entries.{by, entries_with_places}
 use Rattle.mount_model.specs.Port.{PlacedCalls}
 use Rattle.mount_model.specs.History.{History, entries_by}
 use Rattle.script_lang.specs.declared.commands.Section.{Section}
@@ -26,4 +26,4 @@ notes_by seed k (section ∷ more) placed =
 
 -- the notes of a run of a script: by caller, and each caller's in the order of its commands
 abbrev pub notes_of : List ℕ → List Section → History → List Note
-notes_of seed script history = notes_by seed 0 script (numbered 0 history)
+notes_of seed script history = notes_by seed 0 script (entries_with_places 0 history)

@@ -10,12 +10,12 @@ use Rattle.fsc_commands.specs.Steps.Steps.{Done, Ask}
 use Rattle.fsc_session.specs.Rotation.{rotation_steps}
 
 -- each call answered by the mount that the calls before it leave
-abbrev pub played : {A : Type 0} → PlainMount → Steps A → History
-played m (Done value) = []
-played m (Ask who call next) =
+abbrev pub serial_entries : {A : Type 0} → PlainMount → Steps A → History
+serial_entries m (Done value) = []
+serial_entries m (Ask who call next) =
     entry who call (answer_of m who call).reply
-    ∷ played (answer_of m who call).mount (next (answer_of m who call).reply)
+    ∷ serial_entries (answer_of m who call).mount (next (answer_of m who call).reply)
 
 -- the history of a script, a function of script and seed alone
 abbrev pub serial_history : List ℕ → List Section → History
-serial_history seed script = played empty_mount (rotation_steps seed script)
+serial_history seed script = serial_entries empty_mount (rotation_steps seed script)

@@ -13,9 +13,9 @@ use Rattle.fsc_commands.specs.Steps.Steps.{Done}
 use Rattle.fsc_commands.specs.Commands.{command_steps}
 
 -- the note of a command that is a session's work; a single call has none
-abbrev pub noted : ℕ → Command → Option Outcome → List Note
-noted caller command None = []
-noted caller command (Some outcome) = record { caller = caller; line = command.line; outcome = outcome } ∷ []
+abbrev pub notes_of_command : ℕ → Command → Option Outcome → List Note
+notes_of_command caller command None = []
+notes_of_command caller command (Some outcome) = record { caller = caller; line = command.line; outcome = outcome } ∷ []
 
 -- the steps of commands, of which the first has this number, for a caller whose last listing has these
 -- names and that has these notes; they end with all notes
@@ -24,7 +24,7 @@ steps_from seed caller uid number names notes [] = Done notes
 steps_from seed caller uid number names notes (command ∷ more) =
     and_then names (command_steps seed caller uid number names command.verb)
     (λ told outcome.
-    steps_from seed caller uid (number + 1) told (notes ++ noted caller command outcome) more)
+    steps_from seed caller uid (number + 1) told (notes ++ notes_of_command caller command outcome) more)
 
 -- the steps of a caller's section
 abbrev pub section_steps : List ℕ → ℕ → Section → Steps (List Note)

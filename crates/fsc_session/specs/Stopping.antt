@@ -4,7 +4,7 @@ use Rattle.call_history.specs.Placed.{entries_of}
 use Rattle.mount_model.specs.Port.{PlacedCalls}
 use Rattle.script_lang.specs.declared.commands.Section.{Section}
 use Rattle.script_lang.specs.declared.commands.Command.{Command}
-use Rattle.fsc_commands.specs.declared.TheConstants.{MOST_CALLS}
+use Rattle.fsc_commands.specs.declared.TheConstants.{MAX_CALLS}
 use Rattle.fsc_commands.specs.Steps.{Reaches, names_in}
 use Rattle.fsc_commands.specs.Steps.Steps.{Done}
 use Rattle.fsc_commands.specs.Commands.{command_steps}
@@ -24,15 +24,15 @@ next_steps seed runner = steps_of seed runner (slice_get runner.section.commands
 
 -- the port is as after the calls of a runner of the caller's section, a run of the commands before its
 -- next, then calls that begin that command's steps. All of them are a beginning of a run of the section
-pub record SectionBegun {P : Type 0} (came : PlacedCalls → P → Type 0) (port : P)
+pub record SectionBeforeStop {P : Type 0} (after_calls : PlacedCalls → P → Type 0) (port : P)
     (seed : List ℕ) (caller : ℕ) (section : Section) : Type 0 where
   pub runner : RunnerView
   pub told : PlacedCalls
   pub made : PlacedCalls
   pub rest : CommandSteps
-  pub came_by : came (told ++ made) port
+  pub reached_by_call : after_calls (told ++ made) port
   pub own : (runner.caller ≡ caller) × (runner.section ≡ section)
   pub has_run : HasRun seed runner told
   pub begins : Reaches (next_steps seed runner) (entries_of made) rest
-  pub few : length made ≤ MOST_CALLS
+  pub few : length made ≤ MAX_CALLS
   pub begun : IsBegunBy seed caller (Some section) (told ++ made)

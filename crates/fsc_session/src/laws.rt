@@ -3,13 +3,13 @@
 ghost use Rattle.std.specs.Prelude.{◌≡◌, ◌↔◌, ℕ, List};
 ghost use Rattle.call_history.specs.Placed.{entries_of};
 ghost use Rattle.mount_model.specs.Port.{PlacedCalls};
-ghost use Rattle.mount_model.specs.History.{History, IsLegal, NeverWantsMemory};
+ghost use Rattle.mount_model.specs.History.{History, IsLegal, NeverOutOfMemory};
 ghost use Rattle.mount_model.specs.Lawful.{IsLawful, KeysAgree};
 ghost use Rattle.script_lang.specs.declared.commands.Section.{Section};
 ghost use Rattle.fsc_commands.specs.Steps.{Reaches};
 ghost use Rattle.fsc_commands.specs.Steps.Steps.{Done};
 ghost use Rattle.fsc_session.specs.Session.{AreNextCalls, IsRunOfSection, section_steps};
-ghost use Rattle.fsc_session.specs.Meaning.{LogsHaveOneMeaning, WhatIsToldDeterminesTheHistory};
+ghost use Rattle.fsc_session.specs.Meaning.{LogsHaveOneMeaning, LogDeterminesTheHistory};
 ghost use Rattle.fsc_session.specs.Rotation.{Waiting, rotation_steps};
 ghost use Rattle.fsc_session.specs.Serial.{serial_history};
 
@@ -25,7 +25,7 @@ pub fn runs_are_next_calls()
 pub fn answers_determine_the_run()
     ensures { (seed : List ℕ) (script : List Section) (history : History) (after : List Waiting)
         → Reaches (rotation_steps seed script) history (Done after) → IsLegal history
-        → NeverWantsMemory history
+        → NeverOutOfMemory history
         → history ≡ serial_history seed script }
 {}
 
@@ -34,14 +34,14 @@ pub fn answers_determine_the_run()
 pub fn lawful_runs_are_one()
     ensures { (seed : List ℕ) (script : List Section) (history : History) (after : List Waiting)
         → Reaches (rotation_steps seed script) history (Done after) → IsLawful history
-        → NeverWantsMemory history → KeysAgree (serial_history seed script)
+        → NeverOutOfMemory history → KeysAgree (serial_history seed script)
         → history ≡ serial_history seed script }
 {}
 
 /// The values that the lines of entries contain determine the history, given script and seed: the calls
 /// with all that no line shows.
-pub fn what_is_told_determines_the_history()
-    ensures { WhatIsToldDeterminesTheHistory }
+pub fn log_determines_the_history()
+    ensures { LogDeterminesTheHistory }
 {}
 
 /// A log with its notes is the log of at most one run of a script with a seed.

@@ -9,8 +9,8 @@ mod stack;
 
 use item_list::Items;
 pub use laws::{
-    answers_determine_the_run, lawful_runs_are_one, logs_have_one_meaning, runs_are_next_calls,
-    what_is_told_determines_the_history,
+    answers_determine_the_run, lawful_runs_are_one, log_determines_the_history,
+    logs_have_one_meaning, runs_are_next_calls,
 };
 use reply_text::Note;
 pub use runner::{Ran, Runner, note};

@@ -2,17 +2,17 @@
 
 ghost use Rattle.std.specs.Prelude.{◌≡◌, ◌≤◌, [], ◌++◌, IfOk, OnOk, OnErr, IsErr, IsTrue, IsFalse};
 ghost use Rattle.fsc_session.specs.Asking.{AsksRightly};
-ghost use Rattle.fsc_session.specs.Running.{Stepped};
+ghost use Rattle.fsc_session.specs.Running.{RunnerStep};
 ghost use Rattle.fsc_session.specs.Runners.{RunnerView, runner_view, next_command};
 ghost use Rattle.fsc_session.specs.Stopping.{next_steps};
-ghost use Rattle.fsc_commands.specs.Made.{Begun};
-ghost use Rattle.fsc_session.specs.Session.{noted};
-ghost use Rattle.fsc_commands.specs.declared.TheConstants.{MOST_CALLS};
+ghost use Rattle.fsc_commands.specs.MadeCalls.{Begun};
+ghost use Rattle.fsc_session.specs.Session.{notes_of_command};
+ghost use Rattle.fsc_commands.specs.declared.TheConstants.{MAX_CALLS};
 
 use crate::NoteList;
 use crate::stack::scrub_stack;
 use argon_kdf::Stretch;
-use fsc_commands::{EntryList, MOST_CALLS, Turn, run_command};
+use fsc_commands::{EntryList, MAX_CALLS, Turn, run_command};
 use mount_model::MountPort;
 use reply_text::{Note, Outcome};
 use script_lang::{Command, Section};
@@ -82,14 +82,14 @@ impl<'a> Runner<'a> {
     ) -> Result<bool, AllocError>
         requires ready { S.ready stretches.now }
         requires caller { self.old.caller ≡ P.who port.old }
-        requires left { MOST_CALLS ≤ P.calls_left port.old }
+        requires left { MAX_CALLS ≤ P.calls_left port.old }
         requires asked { AsksRightly self.old.section }
-        ensures stepped { IfOk result (λ more. Stepped (P.came port.old) port.new
+        ensures stepped { IfOk result (λ more. RunnerStep (P.after_calls port.old) port.new
             (P.calls_left port.new) (P.calls_left port.old) seed.now more self.old self.new) }
         ensures caller { P.who port.new ≡ P.who port.old }
         ensures own { (self.new.caller ≡ self.old.caller) × (self.new.section ≡ self.old.section) }
         ensures unspent { OnOk result (IsFalse self.new.spent) }
-        ensures failed { OnErr result (Begun (P.came port.old) port.new MOST_CALLS
+        ensures failed { OnErr result (Begun (P.after_calls port.old) port.new MAX_CALLS
             (next_steps seed.now self.old)) }
         ensures spent { OnErr result (IsTrue self.new.spent) }
         ensures stays { IsTrue self.old.spent
@@ -160,7 +160,7 @@ pub fn note(
     command: &Command,
     outcome: Option<Outcome>,
 ) -> Result<(), AllocError>
-    ensures noted { OnOk result (notes.new ≡ notes.old ++ noted caller command.now outcome) }
+    ensures noted { OnOk result (notes.new ≡ notes.old ++ notes_of_command caller command.now outcome) }
     ensures kept { OnErr result (notes.new ≡ notes.old) }
 {
     if let Some(outcome) = outcome {

@@ -3,8 +3,8 @@
 ghost use Rattle.std.specs.Prelude.{◌≤◌, ◌*◌, length, IfOk, OnErr};
 ghost use Rattle.fsc_session.specs.Asking.{AsksRightly};
 ghost use Rattle.fsc_session.specs.PortRuns.{SectionRan};
-ghost use Rattle.fsc_session.specs.Stopping.{SectionBegun};
-ghost use Rattle.fsc_commands.specs.declared.TheConstants.{MOST_CALLS};
+ghost use Rattle.fsc_session.specs.Stopping.{SectionBeforeStop};
+ghost use Rattle.fsc_commands.specs.declared.TheConstants.{MAX_CALLS};
 
 use crate::runner::{Ran, Runner};
 use crate::stack::scrub_stack;
@@ -29,11 +29,11 @@ pub fn run_caller<P: MountPort, G: Gate, S: Stretch>(
     seed: &[u8; 32],
 ) -> Result<Ran, AllocError>
     requires ready { S.ready stretches.now }
-    requires left { MOST_CALLS * length section.now.commands ≤ P.calls_left port.old }
+    requires left { MAX_CALLS * length section.now.commands ≤ P.calls_left port.old }
     requires asked { AsksRightly section.now }
-    ensures ran { IfOk result (λ ran. SectionRan (P.came port.old) port.new (P.calls_left port.new)
+    ensures ran { IfOk result (λ ran. SectionRan (P.after_calls port.old) port.new (P.calls_left port.new)
         (P.calls_left port.old) seed.now (P.who port.old) section.now ran.entries ran.notes) }
-    ensures failed { OnErr result (SectionBegun (P.came port.old) port.new seed.now (P.who port.old)
+    ensures failed { OnErr result (SectionBeforeStop (P.after_calls port.old) port.new seed.now (P.who port.old)
         section.now) }
 {
     let caller = port.caller();

@@ -15,8 +15,8 @@ abbrev pub next_iv : List ℕ → List ℕ → List ℕ → List ℕ
 next_iv key name iv = take 16 (stored_name_with key iv P32 name)
 
 -- the next stored name: the no-key text of this one, written over its beginning
-abbrev pub next_stored : List ℕ → List ℕ
-next_stored stored = nokey_text_of stored ++ drop (length (nokey_text_of stored)) stored
+abbrev pub next_stored_name : List ℕ → List ℕ
+next_stored_name stored = nokey_text_of stored ++ drop (length (nokey_text_of stored)) stored
 
 -- the next raw key: the mode key for contents of this one
 abbrev pub next_raw : List ℕ → List ℕ

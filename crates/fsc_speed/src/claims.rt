@@ -1,6 +1,6 @@
 //! The kernel of claims. It returns the number of claims in the end, and no contract says what that
 //! number is.
-use crate::scattering::scattered;
+use crate::scattering::scattered_bytes;
 use std::alloc::{AllocError, Global};
 use user_claims::{Claims, KeyId};
 
@@ -8,7 +8,7 @@ use user_claims::{Claims, KeyId};
 const USERS: u32 = 600;
 
 /// The maximum number of claims of that many users.
-const MOST_MADE: u32 = 38_400;
+const MAX_MADE: u32 = 38_400;
 
 /// The number of claims that a run makes.
 #[derive(Clone, Copy)]
@@ -19,7 +19,7 @@ pub(crate) struct ClaimCount {
 impl ClaimCount {
     pub(crate) fn read(digits: &str) -> Option<ClaimCount> {
         match digits.parse::<u32>() {
-            Ok(claims) if claims <= MOST_MADE => Some(ClaimCount { claims }),
+            Ok(claims) if claims <= MAX_MADE => Some(ClaimCount { claims }),
             _ => None,
         }
     }
@@ -47,5 +47,5 @@ fn claims_of_first(alloc: Global, size: ClaimCount) -> Result<u32, AllocError> {
 
 // Scattered as identifiers are.
 fn key(number: u32) -> KeyId {
-    KeyId(scattered(number))
+    KeyId(scattered_bytes(number))
 }

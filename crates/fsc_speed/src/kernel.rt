@@ -90,7 +90,7 @@ impl Kernel {
             Kernel::Fixed(Fixed::Plain(kernel)) => Ok(kernel.run(count)),
             Kernel::Fixed(Fixed::Stretch(kernel)) => kernel.run(rt, alloc, count),
             Kernel::Fixed(Fixed::ReadScript) => hashed(scripts::read_scripts(alloc, count)),
-            Kernel::Fixed(Fixed::EntryLine) => hashed(scripts::tell_listings(alloc, count)),
+            Kernel::Fixed(Fixed::EntryLine) => hashed(scripts::format_listings(alloc, count)),
             Kernel::Xts(length) => ciphers::xts(alloc, length.bytes(), count),
             Kernel::XtsBack(length) => ciphers::xts_back(alloc, length.bytes(), count),
             Kernel::Cts(length) => ciphers::cts(alloc, length.bytes(), count),

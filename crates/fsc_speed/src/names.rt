@@ -2,7 +2,7 @@
 ghost use Rattle.std.specs.Prelude.{◌≡◌, ◌<◌, replicate};
 ghost use Rattle.std.specs.Fn.{iterate};
 ghost use Rattle.sha2.specs.Sha256.{sha256};
-ghost use Rattle.fsc_speed.specs.Runs.{next_iv, next_nonce, next_raw, next_stored};
+ghost use Rattle.fsc_speed.specs.Runs.{next_iv, next_nonce, next_raw, next_stored_name};
 
 use fsc_keys::{FileKey, KeyKind, PreparedKey, RawKey, mode_key};
 use name_crypt::{Aes256, Plain, Steps, StoredName, encrypt_name_with, nokey_text};
@@ -18,7 +18,7 @@ const NAME: [u8; 32] = [0x61; 32];
 
 /// Derives the names key of a nonce repeatedly, from a key that is prepared once.
 #[tactic(auto, using(crate::proofs::Repeating::iterate_more))]
-pub(crate) fn draw_file_keys(count: u32) -> [u8; 32]
+pub(crate) fn derive_file_keys(count: u32) -> [u8; 32]
     ensures { result ≡ sha256 (iterate (next_nonce RAW) count (replicate 16 0)) }
 {
     let Ok(raw) = RawKey::read(&RAW) else {
@@ -45,7 +45,7 @@ fn nonce_after(key: &PreparedKey, nonce: &[u8; 16]) -> [u8; 16]
 
 /// Derives the mode key for contents of a raw key, which is the next raw key, repeatedly.
 #[tactic(auto, using(crate::proofs::Repeating::iterate_more))]
-pub(crate) fn draw_mode_keys(count: u32) -> [u8; 32]
+pub(crate) fn derive_mode_keys(count: u32) -> [u8; 32]
     ensures { result ≡ sha256 (iterate next_raw count (replicate 64 90)) }
 {
     let mut raw = RAW;
@@ -99,7 +99,7 @@ fn iv_after<L: Ledger>(key: &Aes256, iv: [u8; 16], name: &Plain, steps: &mut Ste
 /// Makes the no-key text of a stored name of 255 bytes repeatedly.
 #[tactic(auto, using(crate::proofs::Repeating::iterate_more))]
 pub(crate) fn show_names(count: u32) -> [u8; 32]
-    ensures { result ≡ sha256 (iterate next_stored count (replicate 255 165)) }
+    ensures { result ≡ sha256 (iterate next_stored_name count (replicate 255 165)) }
 {
     let mut bytes = [0xa5; 255];
     for _ in 0..count {
@@ -109,7 +109,7 @@ pub(crate) fn show_names(count: u32) -> [u8; 32]
 }
 
 fn show_once(bytes: &mut [u8; 255])
-    ensures { bytes.new ≡ next_stored bytes.old }
+    ensures { bytes.new ≡ next_stored_name bytes.old }
 {
     let Ok(stored) = StoredName::read(&bytes[..]) else {
         unreachable!();

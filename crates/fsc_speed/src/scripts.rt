@@ -1,6 +1,6 @@
 //! The kernels of scripts and logs. They return how much was read or written, and no contract says how
 //! much that is.
-use crate::scattering::{scattered, scattered_name};
+use crate::scattering::{scattered_bytes, scattered_name};
 use call_history::Entry;
 use mount_model::{Call, NameList, Op, Path, Reply};
 use reply_text::entry_line;
@@ -12,7 +12,7 @@ use text_words::push_lower_hex;
 const LINES: u32 = 20_000;
 
 /// More bytes than that many lines have here.
-const MOST_BYTES: usize = 1_048_576;
+const MAX_BYTES: usize = 1_048_576;
 
 /// The maximum number of names in a listing.
 const NAMES: u32 = 128;
@@ -32,7 +32,7 @@ fn read_often(alloc: Global, text: &[u8], count: u32) -> Result<u32, AllocError>
 }
 
 /// Makes the line of a listing of 128 names `count` times. Returns how many bytes were written in all.
-pub(crate) fn tell_listings(alloc: Global, count: u32) -> Result<u32, AllocError> {
+pub(crate) fn format_listings(alloc: Global, count: u32) -> Result<u32, AllocError> {
     let listing = listing(alloc)?;
     tell_often(alloc, &listing, count)
 }
@@ -48,7 +48,7 @@ fn tell_often(alloc: Global, listing: &Entry<Call, Reply>, count: u32) -> Result
 
 // The number of commands of the first caller.
 fn commands_in(alloc: Global, text: &[u8]) -> Result<u32, AllocError> {
-    if text.len() > MOST_BYTES {
+    if text.len() > MAX_BYTES {
         return Err(AllocError);
     }
     let script = read_script(alloc, text).map_err(|_| AllocError)?;
@@ -67,7 +67,7 @@ fn script_text(alloc: Global) -> Result<Vec<u8>, AllocError> {
     let mut text = Vec::from_slice(alloc, b"caller 1000\n")?;
     for line in 1..LINES {
         text.extend_from_slice(b"key-status id:")?;
-        push_lower_hex(&mut text, &scattered(line))?;
+        push_lower_hex(&mut text, &scattered_bytes(line))?;
         text.push(b'\n')?;
     }
     Ok(text)

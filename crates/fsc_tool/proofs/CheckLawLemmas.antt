@@ -5,7 +5,7 @@ use Rattle.log_check.specs.Verdicts.{IsRefusedAt}
 use Rattle.log_check.proofs.StopLemmas.{not_refused}
 use Rattle.fsc_tool.specs.declared.status.Status.TheVariants.{Done, Usage, BadLine, ReadFault, WriteFault, SeedFault, TooLong, Refused, NoMemory}
 use Rattle.fsc_tool.specs.CheckLaws.{IsPrinted, PrintedLogsAreCertified, PrintedLogsAreNotRefused}
-use Rattle.fsc_tool.specs.CheckStatus.{SaysOfInput}
+use Rattle.fsc_tool.specs.CheckStatus.{StatusOfInput}
 use Rattle.fsc_tool.specs.Limits.{IsLong}
 use Rattle.fsc_tool.proofs.PrintedLemmas.{read_is, script_part_is}
 use Rattle.fsc_tool.proofs.CheckLemmas.{not_both}

@@ -6,8 +6,8 @@ use Rattle.std.proofs.lemmas.List.Sums.{count_by-le-length}
 use Rattle.text_words.specs.Lines.{is_ended, is_line_feed}
 use Rattle.fsc_outside.specs.States.{SourceState}
 use Rattle.fsc_outside.specs.Causes.{Rose}
-use Rattle.fsc_outside.specs.Input.{GaveByteMore, GaveLinesMore, EndsReading}
-use Rattle.fsc_outside.specs.WholeTexts.{GaveWhole, IsWithin, ReadWhole}
+use Rattle.fsc_outside.specs.Input.{ReadOneByteMore, ReadTooManyLines, EndsReading}
+use Rattle.fsc_outside.specs.WholeTexts.{ReadToEnd, IsWithin, ReadWhole}
 use Rattle.fsc_outside.specs.Reads.{ReadCall}
 use Rattle.fsc_outside.specs.declared.input.InputFault.{InputFault}
 use Rattle.fsc_outside.specs.declared.input.InputFault.TheVariants as fault
@@ -15,7 +15,7 @@ use Rattle.image_lines.specs.Image.{Image}
 use Rattle.image_lines.specs.ImageText.{image_text}
 use Rattle.image_lines.specs.Reading.{image_read}
 use Rattle.image_lines.specs.Rules.{IsImage}
-use Rattle.image_lines.specs.declared.TheConstants.{MOST_IMAGE_BYTES}
+use Rattle.image_lines.specs.declared.TheConstants.{MAX_IMAGE_BYTES}
 use Rattle.fsc_tool.specs.declared.status.Status.{Status}
 use Rattle.fsc_tool.specs.declared.status.Status.TheVariants.{Done, Usage, BadLine, ReadFault, WriteFault, SeedFault, TooLong, Refused, NoMemory}
 use Rattle.mount_model.specs.History.{History}
@@ -30,7 +30,7 @@ use Rattle.image_lines.specs.declared.fault.ImageFault.TheVariants as image
 use Rattle.fsc_tool.specs.Inspection.{EndsInspection, IsInspection}
 use Rattle.fsc_tool.specs.ImageEnds.{HasListing, image_limits}
 use Rattle.fsc_tool.specs.Outside.{Outside}
-use Rattle.fsc_tool.specs.Replay.{IsOrNoMemory, Told}
+use Rattle.fsc_tool.specs.Replay.{IsOrNoMemory, GivenInput}
 use Rattle.fsc_tool.specs.Written.{EndsLog}
 use Rattle.fsc_tool.proofs.TopLemmas.{gave_told, told_part}
 
@@ -39,37 +39,37 @@ is_read : (image : Image) (input : List ℕ) → IsImage image → input ≡ ima
 is_read image input right written = (images_are_texts input image).1 (right, written)
 
 -- a known input was read whole
-same_read : (old new : SourceState) (input bytes : List ℕ) → old.left ≡ Some input → GaveWhole old new bytes → image_read bytes ≡ image_read input
+same_read : (old new : SourceState) (input bytes : List ℕ) → old.left ≡ Some input → ReadToEnd old new bytes → image_read bytes ≡ image_read input
 same_read old new input bytes told gave = ap image_read (gave_told old new input bytes told gave)
 
-not_short : (old new : SourceState) (input bytes : List ℕ) → old.left ≡ Some input → GaveWhole old new bytes
-    → IsWithin image_limits bytes → MOST_IMAGE_BYTES < length input → ⊥
+not_short : (old new : SourceState) (input bytes : List ℕ) → old.left ≡ Some input → ReadToEnd old new bytes
+    → IsWithin image_limits bytes → MAX_IMAGE_BYTES < length input → ⊥
 not_short old new input bytes told gave short long =
-    let within : length input ≤ MOST_IMAGE_BYTES =
-    subst (λ (xs : List ℕ). length xs ≤ MOST_IMAGE_BYTES) (gave_told old new input bytes told gave) short.bytes in
+    let within : length input ≤ MAX_IMAGE_BYTES =
+    subst (λ (xs : List ℕ). length xs ≤ MAX_IMAGE_BYTES) (gave_told old new input bytes told gave) short.bytes in
     omega (arith, within, long)
 
-not_long : (Came : List ReadCall → Type 0) (old new : SourceState) (input bytes : List ℕ) → old.left ≡ Some input
-    → GaveByteMore image_limits Came old new bytes → length input ≤ MOST_IMAGE_BYTES → ⊥
-not_long Came old new input bytes told more within =
+not_long : (AfterReads : List ReadCall → Type 0) (old new : SourceState) (input bytes : List ℕ) → old.left ≡ Some input
+    → ReadOneByteMore image_limits AfterReads old new bytes → length input ≤ MAX_IMAGE_BYTES → ⊥
+not_long AfterReads old new input bytes told more within =
     let part = told_part new.left input bytes (subst (λ (left : Option (List ℕ)). Consumes left new.left bytes) told more.given) in
-    let size : length bytes ≡ MOST_IMAGE_BYTES + 1 = more.size in
+    let size : length bytes ≡ MAX_IMAGE_BYTES + 1 = more.size in
     omega (arith, part, size, within)
 
 -- no text within the limit of bytes has too many lines
-few_lines : (Came : List ReadCall → Type 0) (old new : SourceState) (bytes : List ℕ) → GaveLinesMore image_limits Came old new bytes → ⊥
-few_lines Came old new bytes more = at (is_ended bytes) more.lines
+few_lines : (AfterReads : List ReadCall → Type 0) (old new : SourceState) (bytes : List ℕ) → ReadTooManyLines image_limits AfterReads old new bytes → ⊥
+few_lines AfterReads old new bytes more = at (is_ended bytes) more.lines
   where
-    at : (ended : Bool) → MOST_IMAGE_BYTES + 1 < count_by is_line_feed bytes + (if ended then 0 else 1) → ⊥
+    at : (ended : Bool) → MAX_IMAGE_BYTES + 1 < count_by is_line_feed bytes + (if ended then 0 else 1) → ⊥
     at true lines =
         let count = count_by-le-length is_line_feed bytes in
-        let size : length bytes ≤ MOST_IMAGE_BYTES = more.size in omega (arith, count, lines, size)
+        let size : length bytes ≤ MAX_IMAGE_BYTES = more.size in omega (arith, count, lines, size)
     at false lines =
         let count = count_by-le-length is_line_feed bytes in
-        let size : length bytes ≤ MOST_IMAGE_BYTES = more.size in omega (arith, count, lines, size)
+        let size : length bytes ≤ MAX_IMAGE_BYTES = more.size in omega (arith, count, lines, size)
 
-module _ (raw : Option (List ℕ)) (Came : List ReadCall → Type 0) (a b : Outside) where
-  long_ends : (status : Status) → EndsInspection raw Came a b status → (input : List ℕ) → Told a b input → MOST_IMAGE_BYTES < length input
+module _ (raw : Option (List ℕ)) (AfterReads : List ReadCall → Type 0) (a b : Outside) where
+  long_ends : (status : Status) → EndsInspection raw AfterReads a b status → (input : List ℕ) → GivenInput a b input → MAX_IMAGE_BYTES < length input
       → IsOrNoMemory TooLong status
   long_ends TooLong h input told long = inl refl
   long_ends NoMemory h input told long = inr refl
@@ -81,27 +81,27 @@ module _ (raw : Option (List ℕ)) (Came : List ReadCall → Type 0) (a b : Outs
   long_ends WriteFault h input told long = absurd (not_short a.source b.source input h.right.input told.left h.right.read.gave h.right.read.within long)
   long_ends (BadLine line) h input told long = absurd (not_short a.source b.source input h.input told.left h.read.gave h.read.within long)
 
-  listing_is_none : (input : List ℕ) (line : ℕ) (text : List ℕ) → Told a b input → image_read input ≡ Err line
-      → HasListing raw Came a.source b.source text → ⊥
+  listing_is_none : (input : List ℕ) (line : ℕ) (text : List ℕ) → GivenInput a b input → image_read input ≡ Err line
+      → HasListing raw AfterReads a.source b.source text → ⊥
   listing_is_none input line text told bad h =
       let same = sym (is_read h.image h.input h.right h.written) ∙ same_read a.source b.source input h.input told.left h.read.gave ∙ bad in
       cc same
 
-  bad_line_ends : (status : Status) → EndsInspection raw Came a b status → (input : List ℕ) (line : ℕ) → Told a b input
-      → length input ≤ MOST_IMAGE_BYTES → image_read input ≡ Err line → IsOrNoMemory (BadLine line) status
+  bad_line_ends : (status : Status) → EndsInspection raw AfterReads a b status → (input : List ℕ) (line : ℕ) → GivenInput a b input
+      → length input ≤ MAX_IMAGE_BYTES → image_read input ≡ Err line → IsOrNoMemory (BadLine line) status
   bad_line_ends NoMemory h input line told within bad = inr refl
   bad_line_ends Usage h input line told within bad = absurd h
   bad_line_ends (Refused place) h input line told within bad = absurd h
   bad_line_ends SeedFault h input line told within bad = absurd h
   bad_line_ends ReadFault h input line told within bad = absurd (told.read h.part.cause)
-  bad_line_ends TooLong h input line told within bad = absurd (not_long Came a.source b.source input h.bytes told.left h.gave within)
+  bad_line_ends TooLong h input line told within bad = absurd (not_long AfterReads a.source b.source input h.bytes told.left h.gave within)
   bad_line_ends (BadLine other) h input line told within bad =
       let same = sym h.bad ∙ same_read a.source b.source input h.input told.left h.read.gave ∙ bad in inl (ap BadLine (cc same))
   bad_line_ends Done h input line told within bad = absurd (listing_is_none input line h.text told bad h.right)
   bad_line_ends WriteFault h input line told within bad = absurd (listing_is_none input line h.text told bad h.right)
 
-  image_ends : (status : Status) → EndsInspection raw Came a b status → (image : Image) → Told a b (image_text image)
-      → length (image_text image) ≤ MOST_IMAGE_BYTES → IsImage image → ¬ Rose a.sink.faults b.sink.faults → IsOrNoMemory Done status
+  image_ends : (status : Status) → EndsInspection raw AfterReads a b status → (image : Image) → GivenInput a b (image_text image)
+      → length (image_text image) ≤ MAX_IMAGE_BYTES → IsImage image → ¬ Rose a.sink.faults b.sink.faults → IsOrNoMemory Done status
   image_ends Done h image told within right written = inl refl
   image_ends NoMemory h image told within right written = inr refl
   image_ends Usage h image told within right written = absurd h
@@ -109,14 +109,14 @@ module _ (raw : Option (List ℕ)) (Came : List ReadCall → Type 0) (a b : Outs
   image_ends SeedFault h image told within right written = absurd h
   image_ends ReadFault h image told within right written = absurd (told.read h.part.cause)
   image_ends WriteFault h image told within right written = absurd (written h.written.cause)
-  image_ends TooLong h image told within right written = absurd (not_long Came a.source b.source (image_text image) h.bytes told.left h.gave within)
+  image_ends TooLong h image told within right written = absurd (not_long AfterReads a.source b.source (image_text image) h.bytes told.left h.gave within)
   image_ends (BadLine line) h image told within right written =
       let same = sym h.bad ∙ same_read a.source b.source (image_text image) h.input told.left h.read.gave ∙ is_read image (image_text image) right refl in
       absurd (cc same)
 
   -- ---- the theorem, from what each status means
 
-  pub inspection_is : (status : Status) → b.seeds ≡ a.seeds → EndsInspection raw Came a b status → IsInspection raw Came a b status
+  pub inspection_is : (status : Status) → b.seeds ≡ a.seeds → EndsInspection raw AfterReads a b status → IsInspection raw AfterReads a b status
   inspection_is status still h = record {
     ends = h;
     unasked = still;
@@ -128,32 +128,32 @@ module _ (raw : Option (List ℕ)) (Came : List ReadCall → Type 0) (a b : Outs
   -- ---- what a run does, from its parts
 
   -- an input that isn't read
-  pub unread_ends : (fault : InputFault) → EndsReading image_limits Came a.source b.source (Err fault) → b.sink ≡ a.sink → b.seeds ≡ a.seeds
-      → EndsInspection raw Came a b (input_status fault)
+  pub unread_ends : (fault : InputFault) → EndsReading image_limits AfterReads a.source b.source (Err fault) → b.sink ≡ a.sink → b.seeds ≡ a.seeds
+      → EndsInspection raw AfterReads a b (input_status fault)
   unread_ends fault.ReadFault h unwritten unasked = record { early = record { unwritten = unwritten; unasked = unasked }; part = h }
   unread_ends fault.NoMemory h unwritten unasked =
       record { early = record { unwritten = unwritten; unasked = unasked }; read = inl h; quiet = h.quiet }
   unread_ends fault.TooLong h unwritten unasked = elim h.gave [
     | inl more ↦ record { early = record { unwritten = unwritten; unasked = unasked }; bytes = h.bytes; gave = more; quiet = h.quiet }
-    | inr lines ↦ absurd (few_lines Came a.source b.source h.bytes lines)
+    | inr lines ↦ absurd (few_lines AfterReads a.source b.source h.bytes lines)
   ]
 
   -- an input that is read whole, after which there was no memory
-  pub want_ends : (input : List ℕ) → ReadWhole image_limits Came a.source b.source input → b.sink ≡ a.sink → b.seeds ≡ a.seeds
-      → EndsInspection raw Came a b NoMemory
+  pub want_ends : (input : List ℕ) → ReadWhole image_limits AfterReads a.source b.source input → b.sink ≡ a.sink → b.seeds ≡ a.seeds
+      → EndsInspection raw AfterReads a b NoMemory
   want_ends input read unwritten unasked =
       record { early = record { unwritten = unwritten; unasked = unasked }; read = inr (input, read); quiet = read.quiet }
 
   -- and one that isn't an image
-  pub no_image_ends : (input : List ℕ) (fault : ImageFault) → ReadWhole image_limits Came a.source b.source input → IsReadFault fault (image_read input)
-      → b.sink ≡ a.sink → b.seeds ≡ a.seeds → EndsInspection raw Came a b (image_status fault)
+  pub no_image_ends : (input : List ℕ) (fault : ImageFault) → ReadWhole image_limits AfterReads a.source b.source input → IsReadFault fault (image_read input)
+      → b.sink ≡ a.sink → b.seeds ≡ a.seeds → EndsInspection raw AfterReads a b (image_status fault)
   no_image_ends input (image.BadLine line) read bad unwritten unasked =
       record { early = record { unwritten = unwritten; unasked = unasked }; input = input; read = read; bad = bad }
   no_image_ends input image.NoMemory read bad unwritten unasked = want_ends input read unwritten unasked
 
   -- a listing that was written
-  pub listed_ends : (text : List ℕ) (status : Status) → HasListing raw Came a.source b.source text → EndsLog text a.sink b.sink status
-      → b.seeds ≡ a.seeds → IsInspection raw Came a b status
+  pub listed_ends : (text : List ℕ) (status : Status) → HasListing raw AfterReads a.source b.source text → EndsLog text a.sink b.sink status
+      → b.seeds ≡ a.seeds → IsInspection raw AfterReads a b status
   listed_ends text Done right h still = inspection_is Done still (record { text = text; right = right; written = h })
   listed_ends text WriteFault right h still = inspection_is WriteFault still (record { text = text; right = right; written = h })
   listed_ends text NoMemory right h still = inspection_is NoMemory still (want_ends right.input right.read h still)
@@ -164,11 +164,11 @@ module _ (raw : Option (List ℕ)) (Came : List ReadCall → Type 0) (a b : Outs
   listed_ends text SeedFault right h still = absurd h
   listed_ends text TooLong right h still = absurd h
 
-  pub never_usage : (status : Status) → EndsInspection raw Came a b status → status ≡ Usage → ⊥
-  never_usage status h is = subst (λ (s : Status). EndsInspection raw Came a b s) is h
+  pub never_usage : (status : Status) → EndsInspection raw AfterReads a b status → status ≡ Usage → ⊥
+  never_usage status h is = subst (λ (s : Status). EndsInspection raw AfterReads a b s) is h
 
   -- ---- the form
 
-  pub inspects : (lawful other : History → Type 0) (form : ToolForm) (status : Status) → IsInspection raw Came a b status
-      → form ≡ Inspect raw → IsRunIn lawful other Came (Some form) a b status
-  inspects lawful other form status run is = subst (λ (asked : ToolForm). IsRunIn lawful other Came (Some asked) a b status) (sym is) run
+  pub inspects : (lawful other : History → Type 0) (form : ToolForm) (status : Status) → IsInspection raw AfterReads a b status
+      → form ≡ Inspect raw → IsRunIn lawful other AfterReads (Some form) a b status
+  inspects lawful other form status run is = subst (λ (asked : ToolForm). IsRunIn lawful other AfterReads (Some asked) a b status) (sym is) run

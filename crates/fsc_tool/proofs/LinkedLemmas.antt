@@ -1,23 +1,23 @@
 -- The text of a run on two mounts, from the shown entries of both histories.
 use Rattle.std.proofs.Common.{◌≡◌, ℕ, ◌+◌, Bool, true, false, cond, List, [], ◌∷◌, ◌++◌, codes, refl, ap, ap₂, sym, ◌∙◌, filter}
 use Rattle.std.specs.Prelude.{◌==◌, unwrap_or}
-use Rattle.call_history.specs.Entries.{by, numbered}
+use Rattle.call_history.specs.Entries.{by, entries_with_places}
 use Rattle.call_history.specs.Placed.{entries_of}
 use Rattle.call_history.proofs.Placing.{map-numbered}
 use Rattle.mount_model.specs.History.{History}
 use Rattle.mount_model.specs.Port.{PlacedCalls}
 use Rattle.script_lang.specs.declared.commands.Section.{Section}
-use Rattle.reply_text.specs.Shown.{PlacedShown}
+use Rattle.reply_text.specs.Logged.{PlacedLogged}
 use Rattle.reply_text.specs.Notes.{notes_text}
 use Rattle.reply_text.specs.declared.notes.Note.{Note}
 use Rattle.fsc_commands.specs.Steps.{value_after}
 use Rattle.fsc_session.specs.Session.{section_steps}
 use Rattle.fsc_session.specs.ScriptRun.{notes_by}
 use Rattle.fsc_session.proofs.ShownRuns.{told_log}
-use Rattle.linked_turns.specs.LinkedRuns.{TellsLinkedRun}
+use Rattle.linked_turns.specs.LinkedRuns.{IsLinkedLogOf}
 use Rattle.linked_turns.specs.LinkedSerial.{TwoHistories, linked_calls}
 use Rattle.linked_turns.specs.LinkedText.{both_logs, linked_text}
-use Rattle.linked_threads.specs.LinkedThreads.{TellsLinkedCalls}
+use Rattle.linked_threads.specs.LinkedThreads.{IsLinkedLogOfCalls}
 use Rattle.fsc_tool.specs.LinkedLog.{IsLinkedLog, IsLinkedLogOfThreads}
 
 -- ---- notes are of the entries, whatever places they have
@@ -44,8 +44,8 @@ notes_alike seed k (section ∷ more) xs ys same =
 -- ---- the text
 
 -- for such entries and notes, the text is right
-pub linked_is : (lawful_0 lawful_1 : History → Type 0) (seed : List ℕ) (script : List Section) (even odd : PlacedShown) (notes : List Note) (text : List ℕ)
-    → TellsLinkedRun lawful_0 lawful_1 seed script even odd notes → text ≡ linked_text (entries_of even) (entries_of odd) notes
+pub linked_is : (lawful_0 lawful_1 : History → Type 0) (seed : List ℕ) (script : List Section) (even odd : PlacedLogged) (notes : List Note) (text : List ℕ)
+    → IsLinkedLogOf lawful_0 lawful_1 seed script even odd notes → text ≡ linked_text (entries_of even) (entries_of odd) notes
     → IsLinkedLog lawful_0 lawful_1 seed script text
 linked_is lawful_0 lawful_1 seed script even odd notes text ran written =
     let log : text ≡ both_logs ran.even ran.odd (notes_by seed 0 script ran.run.told) =
@@ -62,13 +62,13 @@ linked_is lawful_0 lawful_1 seed script even odd notes text ran written =
           let both = ran.run.serial legal_even legal_odd never_even never_odd in
           log
           ∙ ap (λ (ns : List Note). both_logs ran.even ran.odd ns)
-          (notes_alike seed 0 script ran.run.told (numbered 0 (linked_calls seed script)) (calls ∙ sym (map-numbered 0 (linked_calls seed script))))
-          ∙ ap (λ (h : TwoHistories). both_logs h.even h.odd (notes_by seed 0 script (numbered 0 (linked_calls seed script)))) both;
+          (notes_alike seed 0 script ran.run.told (entries_with_places 0 (linked_calls seed script)) (calls ∙ sym (map-numbered 0 (linked_calls seed script))))
+          ∙ ap (λ (h : TwoHistories). both_logs h.even h.odd (notes_by seed 0 script (entries_with_places 0 (linked_calls seed script)))) both;
     }
 
 -- the same of callers in threads
-pub linked_apart_is : (lawful_0 lawful_1 : History → Type 0) (seed : List ℕ) (script : List Section) (even odd : PlacedShown) (notes : List Note)
-    → TellsLinkedCalls lawful_0 lawful_1 seed script even odd notes
+pub linked_apart_is : (lawful_0 lawful_1 : History → Type 0) (seed : List ℕ) (script : List Section) (even odd : PlacedLogged) (notes : List Note)
+    → IsLinkedLogOfCalls lawful_0 lawful_1 seed script even odd notes
     → IsLinkedLogOfThreads lawful_0 lawful_1 seed script (linked_text (entries_of even) (entries_of odd) notes)
 linked_apart_is lawful_0 lawful_1 seed script even odd notes ran =
     record {

@@ -3,7 +3,7 @@ use Rattle.std.proofs.Common.{◌≡◌, ℕ, ◌+◌, ◌==◌, Bool, true, fal
 use Rattle.std.specs.Prelude.{⊤, All}
 use Rattle.std.proofs.lemmas.Bool.{eq-eqb}
 use Rattle.std.proofs.lemmas.List.Elements.{All-nil, All-cons, All-head, All-tail}
-use Rattle.call_history.specs.Entries.{by, numbered, entries_by}
+use Rattle.call_history.specs.Entries.{by, entries_with_places, entries_by}
 use Rattle.call_history.specs.Placed.{entries_of}
 use Rattle.mount_model.specs.declared.call.Call.{Call}
 use Rattle.mount_model.specs.declared.call.Op.TheVariants as op
@@ -26,16 +26,16 @@ use Rattle.script_words.specs.declared.secrets.Secret.{Secret}
 use Rattle.script_words.specs.declared.secrets.NewSecret.{NewSecret}
 use Rattle.script_lang.specs.declared.verb.Options.{Options}
 use Rattle.script_lang.specs.declared.verb.Settings.{Settings}
-use Rattle.session_records.specs.declared.loaded.LoadedPolicy.{LoadedPolicy}
-use Rattle.session_records.specs.declared.opened.OpenedPolicy.{OpenedPolicy}
-use Rattle.session_records.specs.declared.opened.OpenedProtector.{OpenedProtector}
-use Rattle.session_records.specs.declared.outcomes.Wanted.TheVariants as wanted
-use Rattle.session_records.specs.Draws.{nonce_drawn}
-use Rattle.session_records.specs.DrawnRecords.{drawn_policy, policy_widened, protector_rewrapped}
-use Rattle.session_records.specs.LoadedRecords.{policy_loaded}
+use Rattle.session_records.specs.declared.loading.LoadedPolicy.{LoadedPolicy}
+use Rattle.session_records.specs.declared.opening.OpenedPolicy.{OpenedPolicy}
+use Rattle.session_records.specs.declared.opening.OpenedProtector.{OpenedProtector}
+use Rattle.session_records.specs.declared.outcomes.ExpectedReply.TheVariants as wanted
+use Rattle.session_records.specs.Derivations.{derived_nonce}
+use Rattle.session_records.specs.DerivedRecords.{new_policy, policy_with_wrap, protector_with_secret}
+use Rattle.session_records.specs.LoadedRecords.{loaded_policy}
 use Rattle.session_records.specs.PolicyOptions.{node_policy, with_options}
-use Rattle.session_records.specs.PolicyRecords.{policy_without, room_for}
-use Rattle.session_records.specs.Records.{policy_opened, protector_opened}
+use Rattle.session_records.specs.PolicyRecords.{policy_without, wrap_space_for}
+use Rattle.session_records.specs.Records.{opened_policy, unwrapped_protector}
 use Rattle.session_records.proofs.DrawLemmas.{nonce_is_bytes}
 use Rattle.fsc_commands.specs.Steps.{Steps, Reaches, and_then, names_after}
 use Rattle.fsc_commands.specs.Steps.Steps.{Done, Ask}
@@ -44,9 +44,9 @@ use Rattle.fsc_commands.specs.Opening.{loading_policy, opening_protector, openin
 use Rattle.fsc_commands.specs.PolicySteps.{policy_drop_steps, migrate_steps, encrypt_steps}
 use Rattle.fsc_commands.specs.PolicyKeySteps.{unlock_through, unlock_steps, policy_new_steps, add_to, add_through, policy_add_steps}
 use Rattle.fsc_commands.specs.ProtectorSteps.{protector_change_steps}
-use Rattle.fsc_commands.specs.Stars.{path_meant}
+use Rattle.fsc_commands.specs.Stars.{resolved_path}
 use Rattle.fsc_commands.specs.Commands.{command_steps}
-use Rattle.fsc_session.specs.Session.{noted, section_steps, steps_from}
+use Rattle.fsc_session.specs.Session.{notes_of_command, section_steps, steps_from}
 use Rattle.fsc_session.specs.ScriptRun.{IsRunOf, IsRunOfCaller}
 use Rattle.listing_laws.specs.Nonces.{CarriesNonce}
 use Rattle.fsc_tool.specs.DumpLaws.{RunsCarryNonces}
@@ -84,15 +84,15 @@ stores caller uid stored expected text = (tt, λ _. tt)
 
 loads_policy : (caller uid : ℕ) (label : List ℕ) (next : LoadedPolicy → CommandSteps) → ((loaded : LoadedPolicy) → AskNonces (next loaded))
     → AskNonces (loading_policy caller uid label next)
-loads_policy caller uid label next after = (tt, λ reply. goes_on (policy_loaded label reply) next after)
+loads_policy caller uid label next after = (tt, λ reply. goes_on (loaded_policy label reply) next after)
 
 opens_protector : (caller uid : ℕ) (label : List ℕ) (secret : Secret) (next : OpenedProtector → CommandSteps) → ((opened : OpenedProtector) → AskNonces (next opened))
     → AskNonces (opening_protector caller uid label secret next)
-opens_protector caller uid label secret next after = (tt, λ reply. goes_on (protector_opened label secret reply) next after)
+opens_protector caller uid label secret next after = (tt, λ reply. goes_on (unwrapped_protector label secret reply) next after)
 
 opens_policy : (caller uid : ℕ) (label protector key : List ℕ) (next : OpenedPolicy → CommandSteps) → ((opened : OpenedPolicy) → AskNonces (next opened))
     → AskNonces (opening_policy caller uid label protector key next)
-opens_policy caller uid label protector key next after = (tt, λ reply. goes_on (policy_opened label protector key reply) next after)
+opens_policy caller uid label protector key next after = (tt, λ reply. goes_on (opened_policy label protector key reply) next after)
 
 -- ---- sessions' work
 
@@ -101,14 +101,14 @@ changes : (seed : List ℕ) (caller uid number : ℕ) (label : List ℕ) (secret
 changes seed caller uid number label secret new =
     opens_protector caller uid label secret
     (λ opened. storing caller uid (Protector label) opened.loaded.version
-    (protector_text (protector_rewrapped seed caller number opened.loaded.protector opened.key new)))
+    (protector_text (protector_with_secret seed caller number opened.loaded.protector opened.key new)))
     (λ opened. (tt, λ _. tt))
 
 makes_policy : (seed : List ℕ) (caller uid number : ℕ) (label protector : List ℕ) (secret : Secret) (options : Option Options)
     → AskNonces (policy_new_steps seed caller uid number label protector secret options)
 makes_policy seed caller uid number label protector secret options =
     opens_protector caller uid protector secret
-    (λ opener. storing caller uid (Policy label) 0 (policy_text (drawn_policy seed caller number label protector options opener.key)))
+    (λ opener. storing caller uid (Policy label) 0 (policy_text (new_policy seed caller number label protector options opener.key)))
     (λ opener. (tt, λ _. tt))
 
 adds_to : (seed : List ℕ) (caller uid number : ℕ) (label : List ℕ) (loaded : LoadedPolicy) (key added : List ℕ) (secret : Secret)
@@ -116,16 +116,16 @@ adds_to : (seed : List ℕ) (caller uid number : ℕ) (label : List ℕ) (loaded
 adds_to seed caller uid number label loaded key added secret =
     opens_protector caller uid added secret
     (λ adding. storing caller uid (Policy label) loaded.version
-    (policy_text (policy_widened seed caller number key added adding.key loaded.policy)))
+    (policy_text (policy_with_wrap seed caller number key added adding.key loaded.policy)))
     (λ adding. (tt, λ _. tt))
 
 adds_through : (seed : List ℕ) (caller uid number : ℕ) (label protector key added : List ℕ) (secret : Secret)
     → AskNonces (add_through seed caller uid number label protector key added secret)
 adds_through seed caller uid number label protector key added secret =
     opens_policy caller uid label protector key
-    (λ opened. when_ok (room_for added opened.loaded.policy.wraps)
+    (λ opened. when_ok (wrap_space_for added opened.loaded.policy.wraps)
     (λ room. add_to seed caller uid number label opened.loaded opened.key added secret))
-    (λ opened. goes_on (room_for added opened.loaded.policy.wraps)
+    (λ opened. goes_on (wrap_space_for added opened.loaded.policy.wraps)
     (λ room. add_to seed caller uid number label opened.loaded opened.key added secret)
     (λ room. adds_to seed caller uid number label opened.loaded opened.key added secret))
 
@@ -175,7 +175,7 @@ encrypts : (seed : List ℕ) (caller uid number : ℕ) (names : List (List ℕ))
     → AskNonces (encrypt_steps seed caller uid number names path label settings)
 encrypts seed caller uid number names path label settings =
     loads_policy caller uid label
-    (λ loaded. last_call caller uid (op.SetPolicy (path_meant names path) (policy_bytes (node_policy loaded.policy settings)) (nonce_drawn seed caller number)) wanted.Done)
+    (λ loaded. last_call caller uid (op.SetPolicy (resolved_path names path) (policy_bytes (node_policy loaded.policy settings)) (derived_nonce seed caller number)) wanted.Done)
     (λ loaded. (nonce_is_bytes seed caller number, λ _. tt))
 
 -- ---- commands
@@ -227,7 +227,7 @@ commands_ask seed caller uid number names notes [] = tt
 commands_ask seed caller uid number names notes (command ∷ more) =
     one_after_other names (command_steps seed caller uid number names command.verb) _
     (command_asks seed caller uid number names command.verb)
-    (λ told outcome. commands_ask seed caller uid (number + 1) told (notes ++ noted caller command outcome) more)
+    (λ told outcome. commands_ask seed caller uid (number + 1) told (notes ++ notes_of_command caller command outcome) more)
 
 caller_carries : (seed : List ℕ) (caller : ℕ) (o : Option Section) (placed : PlacedCalls) → IsRunOfCaller seed caller o placed → All Carries (entries_of placed)
 caller_carries seed caller None placed run = subst (λ (l : PlacedCalls). All Carries (entries_of l)) (sym run) (All-nil Carries)
@@ -245,12 +245,12 @@ others_carry : (k : ℕ) (e : MountEntry) (others : PlacedCalls) (own : Bool) �
 others_carry k e others true all = All-tail Carries e (entries_of others) all
 others_carry k e others false all = all
 
-all_carry : (k : ℕ) (h : History) → ((caller : ℕ) → All Carries (entries_of (by caller (numbered k h)))) → All Carries h
+all_carry : (k : ℕ) (h : History) → ((caller : ℕ) → All Carries (entries_of (by caller (entries_with_places k h)))) → All Carries h
 all_carry k [] each = All-nil Carries
 all_carry k (e ∷ h) each =
     All-cons Carries e h
-    (first_carries k e (by e.who (numbered (k + 1) h)) (e.who == e.who) (eq-eqb e.who e.who refl) (each e.who))
-    (all_carry (k + 1) h (λ caller. others_carry k e (by caller (numbered (k + 1) h)) (e.who == caller) (each caller)))
+    (first_carries k e (by e.who (entries_with_places (k + 1) h)) (e.who == e.who) (eq-eqb e.who e.who refl) (each e.who))
+    (all_carry (k + 1) h (λ caller. others_carry k e (by caller (entries_with_places (k + 1) h)) (e.who == caller) (each caller)))
 
 pub run_nonces : RunsCarryNonces
 run_nonces seed script history run = all_carry 0 history (λ caller. caller_carries seed caller _ (entries_by caller history) (run caller))

@@ -8,29 +8,29 @@ use Rattle.std.proofs.lemmas.Slice.Eq.{bytes_eq-Decides}
 use Rattle.image_lines.proofs.RoundLemmas.{dropped}
 use Rattle.std.proofs.lemmas.List.Splits.{length-slice_split}
 use Rattle.text_words.specs.Lines.{is_line_feed, pieces_of}
-use Rattle.fsc_tool.specs.Parted.{bytes_before, parted, parted_at, parting}
+use Rattle.fsc_tool.specs.Splitting.{bytes_before, split_input, split_input_at, parting}
 
 -- a text has one piece or more
 some_piece : (text : List ℕ) → pieces_of text ≡ [] → ⊥
 some_piece text none = let long = length-slice_split is_line_feed text in let is = ap length none in omega (arith, long, is)
 
-behind_line : (line : List ℕ) (pieces : List (List ℕ)) → (pieces ≡ [] → ⊥)
+rest_after_entry_line : (line : List ℕ) (pieces : List (List ℕ)) → (pieces ≡ [] → ⊥)
     → bytes_before (line ∷ pieces) ≡ (if bytes_eq line parting then Some 0 else option_map (λ bytes. length line + 1 + bytes) (bytes_before pieces))
 unfolding bytes_before
-behind_line line [] some = absurd (some refl)
-behind_line line (next ∷ more) some = refl
+rest_after_entry_line line [] some = absurd (some refl)
+rest_after_entry_line line (next ∷ more) some = refl
 
 -- a line that separates
 pub parts_here : (line text : List ℕ) → bytes_eq line parting ≡ true → bytes_before (line ∷ pieces_of text) ≡ Some 0
 parts_here line text is =
-    behind_line line (pieces_of text) (some_piece text)
+    rest_after_entry_line line (pieces_of text) (some_piece text)
     ∙ ap (λ (b : Bool). if b then Some 0 else option_map (λ (bytes : ℕ). length line + 1 + bytes) (bytes_before (pieces_of text))) is
 
 -- and one that doesn't
 pub parts_behind : (line text : List ℕ) → bytes_eq line parting ≡ false
     → bytes_before (line ∷ pieces_of text) ≡ option_map (λ bytes. length line + 1 + bytes) (bytes_before (pieces_of text))
 parts_behind line text is =
-    behind_line line (pieces_of text) (some_piece text)
+    rest_after_entry_line line (pieces_of text) (some_piece text)
     ∙ ap (λ (b : Bool). if b then Some 0 else option_map (λ (bytes : ℕ). length line + 1 + bytes) (bytes_before (pieces_of text))) is
 
 -- a last piece without a line feed
@@ -44,19 +44,19 @@ abbrev IsSo : List ℕ → List ℕ → Type 0
 IsSo text rest = bytes_before (pieces_of text) ≡ option_map (λ bytes. length text - length rest + bytes) (bytes_before (pieces_of rest))
 
 module _ (text rest : List ℕ) (so : IsSo text rest) where
-  pub nothing_left : (length rest == 0) ≡ true → None ≡ parted text
-  nothing_left none = at rest so none
+  pub end_of_record : (length rest == 0) ≡ true → None ≡ split_input text
+  end_of_record none = at rest so none
     where
-      at : (rest : List ℕ) → IsSo text rest → (length rest == 0) ≡ true → None ≡ parted text
+      at : (rest : List ℕ) → IsSo text rest → (length rest == 0) ≡ true → None ≡ split_input text
       at [] so none =
-          sym (ap (option_map (parted_at text)) (so ∙ ap (option_map (λ (bytes : ℕ). length text - 0 + bytes)) (parts_nothing [])))
+          sym (ap (option_map (split_input_at text)) (so ∙ ap (option_map (λ (bytes : ℕ). length text - 0 + bytes)) (parts_nothing [])))
       at (b ∷ bs) so none = let zero = (Decides-eqb (length (b ∷ bs)) 0).0 none in absurd (omega (arith, zero))
 
   module _ (line more : List ℕ) (ended : Bool) (pieces : pieces_of rest ≡ line ∷ (if ended then pieces_of more else [])) where
-    pub nothing_ended : ended ≡ false → None ≡ parted text
+    pub nothing_ended : ended ≡ false → None ≡ split_input text
     nothing_ended left =
         let last : pieces_of rest ≡ line ∷ [] = pieces ∙ ap (λ (e : Bool). line ∷ (if e then pieces_of more else [])) left in
-        sym (ap (option_map (parted_at text))
+        sym (ap (option_map (split_input_at text))
         (so ∙ ap (λ (ps : List (List ℕ)). option_map (λ (bytes : ℕ). length text - length rest + bytes) (bytes_before ps)) last
         ∙ ap (option_map (λ (bytes : ℕ). length text - length rest + bytes)) (parts_nothing line)))
 
@@ -77,7 +77,7 @@ module _ (text rest : List ℕ) (so : IsSo text rest) where
       pub shorter_is : length more ≤ length text
       shorter_is = let size = long in omega (arith, size, within)
 
-      pub parts_in : bytes_eq line parting ≡ true → Some (take (length text - length rest) text, more) ≡ parted text
+      pub parts_in : bytes_eq line parting ≡ true → Some (take (length text - length rest) text, more) ≡ split_input text
       parts_in is =
           let three = ap length ((bytes_eq-Decides line parting).0 is) in
           let size = long in
@@ -87,7 +87,7 @@ module _ (text rest : List ℕ) (so : IsSo text rest) where
           so ∙ ap (λ (ps : List (List ℕ)). option_map (λ (bytes : ℕ). length text - length rest + bytes) (bytes_before ps)) (first closed)
           ∙ ap (option_map (λ (bytes : ℕ). length text - length rest + bytes)) (parts_here line more is) in
           ap₂ (λ (n : ℕ) (log : List ℕ). Some (take n text, log)) here (behind_is ∙ ap (λ (n : ℕ). drop n text) at)
-          ∙ sym (ap (option_map (parted_at text)) found)
+          ∙ sym (ap (option_map (split_input_at text)) found)
 
       pub goes_on : bytes_eq line parting ≡ false → IsSo text more
       goes_on is =

@@ -16,7 +16,7 @@ use Rattle.script_lang.specs.Statements.{statement_of}
 use Rattle.script_lang.specs.declared.commands.Section.{Section}
 use Rattle.script_lang.specs.declared.statements.Statement.{Statement}
 use Rattle.script_lang.proofs.ReadingLemmas.{statements_in-line}
-use Rattle.fsc_tool.specs.Parted.{bytes_before, certificate_read, certificate_text, parted, parted_at, parting, script_part, unless_bad, with_log}
+use Rattle.fsc_tool.specs.Splitting.{bytes_before, read_certificate, certificate_text, split_input, split_input_at, parting, script_part, unless_bad, with_log}
 use Rattle.fsc_tool.proofs.PartLemmas.{parts_behind, parts_here}
 
 -- ---- each line of a script is a statement
@@ -126,16 +126,16 @@ module _ (log : List ℕ) where
   ]
 
   module _ (input : List ℕ) (script : List Section) (is : parsed_script input ≡ Ok script) where
-    pub parted_is : parted (certificate_text input log) ≡ Some (input, log)
+    pub parted_is : split_input (certificate_text input log) ≡ Some (input, log)
     parted_is =
-        ap (option_map (parted_at (certificate_text input log))) (script_ends [] input (All-nil IsPlain) (script_said input script is))
+        ap (option_map (split_input_at (certificate_text input log))) (script_ends [] input (All-nil IsPlain) (script_said input script is))
         ∙ ap₂ (λ (part end : List ℕ). Some (part, end)) (take-append_seam input behind) (drop-append-add input behind 4)
 
     pub script_part_is : script_part (certificate_text input log) ≡ input
     script_part_is =
         ap (λ (parts : Option (List ℕ × List ℕ)). option_map_or (λ parts. parts.0) parts (certificate_text input log)) parted_is
 
-    pub read_is : certificate_read (certificate_text input log) ≡ Ok (script, log)
+    pub read_is : read_certificate (certificate_text input log) ≡ Ok (script, log)
     read_is =
         ap₂ (λ (part : List ℕ) (parts : Option (List ℕ × List ℕ)).
         unless_bad (parsed_script part) (with_log (certificate_text input log) parts)) script_part_is parted_is

@@ -13,19 +13,19 @@ use Rattle.fsc_tool.specs.declared.form.Way.TheVariants.{InThreads}
 use Rattle.fsc_tool.specs.declared.form.ToolForm.{ToolForm}
 use Rattle.fsc_tool.specs.declared.form.ToolForm.TheVariants.{Replay, Generate, Summarise, Dump, Inspect}
 use Rattle.fsc_tool.specs.declared.form.ToolForm.TheVariants.{Check, CheckStrictly, ReplayLinked}
-use Rattle.fsc_tool.specs.ReplayForms.{seed_given, replay_of, linked_of}
+use Rattle.fsc_tool.specs.ReplayForms.{given_seed, replay_of, linked_of}
 
 -- after `gen` and the number
-abbrev pub generated_behind : List (List ℕ) → ℕ → Option ToolForm
-generated_behind [] number = Some (Generate number)
-generated_behind (word ∷ []) number =
+abbrev pub generated_after : List (List ℕ) → ℕ → Option ToolForm
+generated_after [] number = Some (Generate number)
+generated_after (word ∷ []) number =
     if bytes_eq word (codes "--summary") then Some (Summarise number) else None
-generated_behind _ number = None
+generated_after _ number = None
 
 -- after `gen`
 abbrev pub generated_of : List (List ℕ) → Option ToolForm
 generated_of [] = None
-generated_of (number ∷ words) = option_and_then (generated_behind words) (number_below (2 ^ 32) number)
+generated_of (number ∷ words) = option_and_then (generated_after words) (number_below (2 ^ 32) number)
 
 -- after `inspect`: no argument, or `raw:` and a raw key of 32 to 64 bytes in digits of either case
 abbrev pub inspected_with : Option KeyRef → Option ToolForm
@@ -41,8 +41,8 @@ inspected_of _ = None
 abbrev pub checked_of : List (List ℕ) → Option ToolForm
 checked_of [] = None
 checked_of (word ∷ words) =
-    if bytes_eq word (codes "--strict") then option_map CheckStrictly (seed_given words)
-    else option_map Check (seed_given (word ∷ words))
+    if bytes_eq word (codes "--strict") then option_map CheckStrictly (given_seed words)
+    else option_map Check (given_seed (word ∷ words))
 
 -- what the arguments ask for, if they are a form
 abbrev pub form_of : List (List ℕ) → Option ToolForm
@@ -50,7 +50,7 @@ form_of [] = None
 form_of (verb ∷ words) =
     if bytes_eq verb (codes "replay") then replay_of words
     else if bytes_eq verb (codes "gen") then generated_of words
-    else if bytes_eq verb (codes "dump") then option_map Dump (seed_given words)
+    else if bytes_eq verb (codes "dump") then option_map Dump (given_seed words)
     else if bytes_eq verb (codes "inspect") then inspected_of words
     else if bytes_eq verb (codes "check") then checked_of words
     else if bytes_eq verb (codes "replay-linked") then linked_of words

@@ -1,10 +1,10 @@
 -- A run of a form that generates: what it writes, and how it ends. It asks neither the source nor the seed
 -- source.
 use Rattle.std.specs.Prelude.{◌≡◌, ℕ, List, ◌++◌, replicate}
-use Rattle.mount_model.specs.History.{History, NeverWantsMemory}
+use Rattle.mount_model.specs.History.{History, NeverOutOfMemory}
 use Rattle.mount_model.specs.Lawful.{IsLawful, KeysAgree}
 use Rattle.script_lang.specs.declared.commands.Section.{Section}
-use Rattle.load_gen.specs.Generated.{generated, generated_script}
+use Rattle.load_gen.specs.Generated.{generated_text, generated_script}
 use Rattle.fsc_outside.specs.Causes.{Rose}
 use Rattle.reply_text.specs.Log.{log_text}
 use Rattle.reply_text.specs.Notes.{notes_text}
@@ -42,14 +42,14 @@ IsOfMounts lawful = (history : History) → lawful history → IsLawful history
 pub record SummaryOfRun (lawful : History → Type 0) (number : ℕ) (text : List ℕ) : Type 0 where
   pub history : History
   pub run : IsSerialRun lawful zero_seed (generated_script number) history
-  pub no_want : NeverWantsMemory history
+  pub no_out_of_memory : NeverOutOfMemory history
   pub summary : text ≡ run_summary zero_seed (generated_script number) history
   pub fixed : IsOfMounts lawful → KeysAgree (generated_history number)
       → text ≡ run_summary zero_seed (generated_script number) (generated_history number)
 
 -- the text is the script that the number gives
 abbrev pub IsScriptText : ℕ → List ℕ → Type 0
-IsScriptText number text = text ≡ generated number
+IsScriptText number text = text ≡ generated_text number
 
 -- a run that reads nothing and writes such a text
 pub record IsGenRun (IsText : List ℕ → Type 0) (a b : Outside) (status : Status) : Type 0 where

@@ -17,7 +17,7 @@ pub mod Limits
 pub mod LinkedLog
 pub mod LogOfRun
 pub mod Outside
-pub mod Parted
+pub mod Splitting
 pub mod Prepared
 pub mod Replay
 pub mod Seed

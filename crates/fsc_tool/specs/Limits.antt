@@ -2,11 +2,11 @@
 use Rattle.std.specs.Prelude.{◌<◌, ◌⊎◌, ℕ, List, length}
 use Rattle.text_words.specs.Lines.{line_count}
 use Rattle.fsc_outside.specs.declared.input.InputLimits.{InputLimits}
-use Rattle.fsc_tool.specs.declared.limits.TheConstants.{MOST_INPUT_BYTES, MOST_INPUT_LINES}
+use Rattle.fsc_tool.specs.declared.limits.TheConstants.{MAX_INPUT_BYTES, MAX_INPUT_LINES}
 
 abbrev pub input_limits : InputLimits
-input_limits = record { bytes = MOST_INPUT_BYTES; lines = MOST_INPUT_LINES }
+input_limits = record { bytes = MAX_INPUT_BYTES; lines = MAX_INPUT_LINES }
 
 -- a text beyond a limit
 abbrev pub IsLong : List ℕ → Type 0
-IsLong text = (MOST_INPUT_BYTES < length text) ⊎ (MOST_INPUT_LINES < line_count text)
+IsLong text = (MAX_INPUT_BYTES < length text) ⊎ (MAX_INPUT_LINES < line_count text)

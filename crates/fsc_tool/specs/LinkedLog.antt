@@ -1,6 +1,6 @@
 -- The text of a run of a script on two mounts.
 use Rattle.std.specs.Prelude.{◌≡◌, ℕ, List}
-use Rattle.mount_model.specs.History.{History, IsLegal, NeverWantsMemory}
+use Rattle.mount_model.specs.History.{History, IsLegal, NeverOutOfMemory}
 use Rattle.mount_model.specs.Port.{PlacedCalls}
 use Rattle.script_lang.specs.declared.commands.Section.{Section}
 use Rattle.fsc_session.specs.ScriptRun.{notes_by, notes_of}
@@ -24,7 +24,7 @@ pub record IsLinkedLog (lawful_0 lawful_1 : History → Type 0) (seed : List ℕ
   pub odd : History
   pub run : IsLinkedRun lawful_0 lawful_1 seed script even odd
   pub log : text ≡ both_logs even odd (notes_by seed 0 script run.told)
-  pub fixed : IsLegal even → IsLegal odd → NeverWantsMemory even → NeverWantsMemory odd
+  pub fixed : IsLegal even → IsLegal odd → NeverOutOfMemory even → NeverOutOfMemory odd
       → text ≡ serial_logs seed script
 
 -- the text is that of two histories with the calls of the script's callers, with the seed, that don't wait

@@ -10,10 +10,10 @@ use Rattle.fsc_tool.specs.Limits.{input_limits}
 use Rattle.fsc_tool.specs.Seed.{IsSeedOf}
 
 -- the source gave this script within the limits, and this is the seed
-pub record IsPrepared (Came : List ReadCall → Type 0) (seeding : Seeding) (source source' : SourceState)
+pub record IsPrepared (AfterReads : List ReadCall → Type 0) (seeding : Seeding) (source source' : SourceState)
     (seeds seeds' : SeedState) (script : List Section) (seed : List ℕ) : Type 0 where
   pub input : List ℕ
-  pub read : ReadWhole input_limits Came source source' input
+  pub read : ReadWhole input_limits AfterReads source source' input
   pub spelled : parsed_script input ≡ Ok script
   pub seeded : IsSeedOf seeding seeds seeds' seed
 

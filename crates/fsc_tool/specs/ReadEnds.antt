@@ -1,5 +1,5 @@
 -- How a run ends by what the source gave, if nothing is written, and what was read if there is no memory.
--- `Came` holds of the source's calls in between.
+-- `AfterReads` holds of the source's calls in between.
 use Rattle.std.specs.Prelude.{◌≡◌, ◌⊎◌, ℕ, List, Result, Err}
 use Rattle.fsc_outside.specs.declared.input.InputLimits.{InputLimits}
 use Rattle.fsc_outside.specs.Input.{ReadTooMuch}
@@ -14,24 +14,24 @@ pub record EndsEarly (a b : Outside) : Type 0 where
   pub unasked : b.seeds ≡ a.seeds
 
 -- a call of the source failed, and it was the last
-pub record EndsReadFault (limits : InputLimits) (Came : List ReadCall → Type 0) (a b : Outside) : Type 0 where
+pub record EndsReadFault (limits : InputLimits) (AfterReads : List ReadCall → Type 0) (a b : Outside) : Type 0 where
   pub early : EndsEarly a b
-  pub part : ReadPart limits Came a.source b.source
+  pub part : ReadPart limits AfterReads a.source b.source
 
 -- the source gave more than the limits allow
-pub record EndsTooLong (limits : InputLimits) (Came : List ReadCall → Type 0) (a b : Outside) : Type 0 where
+pub record EndsTooLong (limits : InputLimits) (AfterReads : List ReadCall → Type 0) (a b : Outside) : Type 0 where
   pub early : EndsEarly a b
-  pub much : ReadTooMuch limits Came a.source b.source
+  pub much : ReadTooMuch limits AfterReads a.source b.source
 
 -- the line is the one at fault if the input is read by `read_as`
 pub record EndsBadLine {A : Type 0} (limits : InputLimits) (read_as : List ℕ → Result A ℕ)
-    (Came : List ReadCall → Type 0) (line : ℕ) (a b : Outside) : Type 0 where
+    (AfterReads : List ReadCall → Type 0) (line : ℕ) (a b : Outside) : Type 0 where
   pub early : EndsEarly a b
   pub input : List ℕ
-  pub read : ReadWhole limits Came a.source b.source input
+  pub read : ReadWhole limits AfterReads a.source b.source input
   pub bad : read_as input ≡ Err line
 
 -- a text was read whole, or begun
 abbrev pub ReadSome : InputLimits → (List ReadCall → Type 0) → Outside → Outside → Type 0
-ReadSome limits Came a b = ReadInVain limits Came a.source b.source
-    ⊎ ((input : List ℕ) × ReadWhole limits Came a.source b.source input)
+ReadSome limits AfterReads a b = ReadInVain limits AfterReads a.source b.source
+    ⊎ ((input : List ℕ) × ReadWhole limits AfterReads a.source b.source input)

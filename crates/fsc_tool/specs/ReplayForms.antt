@@ -11,34 +11,34 @@ use Rattle.fsc_tool.specs.declared.form.ToolForm.{ToolForm}
 use Rattle.fsc_tool.specs.declared.form.ToolForm.TheVariants.{Replay, ReplayLinked}
 
 -- the seed that is given: `--seed` and 32 bytes in 64 digits of either case
-abbrev pub seed_given : List (List ℕ) → Option (List ℕ)
-seed_given (name ∷ digits ∷ []) =
+abbrev pub given_seed : List (List ℕ) → Option (List ℕ)
+given_seed (name ∷ digits ∷ []) =
     if bytes_eq name (codes "--seed") then hex_bytes_of_length 32 digits else None
-seed_given _ = None
+given_seed _ = None
 
 -- where the seed comes from: no argument, or a given one
 abbrev pub seeding_of : List (List ℕ) → Option Seeding
 seeding_of [] = Some Asked
-seeding_of words = option_map Given (seed_given words)
+seeding_of words = option_map Given (given_seed words)
 
-abbrev pub replayed : Way → Option Seeding → Option ToolForm
-replayed way None = None
-replayed way (Some seeding) = Some (Replay way seeding)
+abbrev pub replay_form : Way → Option Seeding → Option ToolForm
+replay_form way None = None
+replay_form way (Some seeding) = Some (Replay way seeding)
 
 -- after `replay`
 abbrev pub replay_of : List (List ℕ) → Option ToolForm
-replay_of [] = replayed InThreads (Some Asked)
+replay_of [] = replay_form InThreads (Some Asked)
 replay_of (word ∷ words) =
-    if bytes_eq word (codes "--serial") then replayed InTurn (seeding_of words)
-    else replayed InThreads (seeding_of (word ∷ words))
+    if bytes_eq word (codes "--serial") then replay_form InTurn (seeding_of words)
+    else replay_form InThreads (seeding_of (word ∷ words))
 
-abbrev pub replayed_linked : Way → Option (List ℕ) → Option ToolForm
-replayed_linked way None = None
-replayed_linked way (Some seed) = Some (ReplayLinked way seed)
+abbrev pub linked_replay_form : Way → Option (List ℕ) → Option ToolForm
+linked_replay_form way None = None
+linked_replay_form way (Some seed) = Some (ReplayLinked way seed)
 
 -- after `replay-linked`
 abbrev pub linked_of : List (List ℕ) → Option ToolForm
 linked_of [] = None
 linked_of (word ∷ words) =
-    if bytes_eq word (codes "--serial") then replayed_linked InTurn (seed_given words)
-    else replayed_linked InThreads (seed_given (word ∷ words))
+    if bytes_eq word (codes "--serial") then linked_replay_form InTurn (given_seed words)
+    else linked_replay_form InThreads (given_seed (word ∷ words))

@@ -7,7 +7,7 @@ use Rattle.fsc_tool.specs.declared.form.Seeding.{Seeding}
 use Rattle.fsc_tool.specs.declared.form.Seeding.TheVariants.{Given, Asked}
 
 -- the seed source was asked just once and gave this seed: its next one, if that is known
-pub record GaveSeed (old new : SeedState) (seed : List ℕ) : Type 0 where
+pub record ReadSeed (old new : SeedState) (seed : List ℕ) : Type 0 where
   pub told : IfSome old.next (λ next. seed ≡ next)
   pub asked : new.asked ≡ one_more old.asked
   pub quiet : new.faults ≡ old.faults
@@ -20,7 +20,7 @@ pub record FailedSeed (old new : SeedState) : Type 0 where
 -- the arguments' own seed, for which the seed source isn't asked, or else one that it gave
 abbrev pub ComesFrom : Seeding → SeedState → SeedState → List ℕ → Type 0
 ComesFrom (Given own) old new seed = (seed ≡ own) × (new ≡ old)
-ComesFrom Asked old new seed = GaveSeed old new seed
+ComesFrom Asked old new seed = ReadSeed old new seed
 
 -- the seed of a run, of 32 bytes
 pub record IsSeedOf (seeding : Seeding) (old new : SeedState) (seed : List ℕ) : Type 0 where

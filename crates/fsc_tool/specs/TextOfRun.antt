@@ -9,12 +9,12 @@ use Rattle.fsc_tool.specs.Limits.{input_limits}
 use Rattle.fsc_tool.specs.Outside.{Outside}
 use Rattle.fsc_tool.specs.Seed.{IsSeedOf}
 
--- the source gave an input within the limits, by calls of which `Came` holds, that is this script; the run
+-- the source gave an input within the limits, by calls of which `AfterReads` holds, that is this script; the run
 -- had this seed; and the text is one of a run of the script with the seed
 pub record HasText (IsText : List ℕ → List Section → List ℕ → Type 0)
-    (Came : List ReadCall → Type 0) (seeding : Seeding) (a b : Outside) (text : List ℕ) : Type 0 where
+    (AfterReads : List ReadCall → Type 0) (seeding : Seeding) (a b : Outside) (text : List ℕ) : Type 0 where
   pub input : List ℕ
-  pub read : ReadWhole input_limits Came a.source b.source input
+  pub read : ReadWhole input_limits AfterReads a.source b.source input
   pub script : List Section
   pub spelled : parsed_script input ≡ Ok script
   pub seed : List ℕ

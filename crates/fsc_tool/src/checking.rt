@@ -1,21 +1,21 @@
 //! The run that checks a log. It writes nothing, and asks for no seed.
 
 ghost use Rattle.std.specs.Prelude.{◌≡◌, List, replicate, IfOk};
-ghost use Rattle.log_check.specs.Verdicts.{Says};
+ghost use Rattle.log_check.specs.Verdicts.{IsVerdictOf};
 ghost use Rattle.script_lang.specs.Spelled.{IsSpelled};
 ghost use Rattle.fsc_outside.specs.Reads.{ReadCall};
 ghost use Rattle.fsc_outside.specs.States.{SeedState, SinkState};
 ghost use Rattle.fsc_tool.specs.Checking.{IsChecking};
-ghost use Rattle.fsc_tool.specs.CheckStatus.{SaysOfInput, SaysOfLog};
+ghost use Rattle.fsc_tool.specs.CheckStatus.{StatusOfInput, StatusOfLog};
 ghost use Rattle.fsc_tool.specs.Outside.{outside};
 
 use crate::difference::{Difference, difference_at};
 use crate::limits::CERTIFICATE_LIMITS;
 use crate::one_mount::OneMount;
-use crate::parting::parted;
 use crate::replay::{input_status, script_status, wipe_input};
+use crate::splitting::split_input;
 use crate::status::Status;
-use crate::{MOST_INPUT_BYTES, MOST_INPUT_LINES};
+use crate::{MAX_INPUT_BYTES, MAX_INPUT_LINES};
 use argon_kdf::PlainStretch;
 use byte_words::wipe;
 use fsc_outside::{Source, read_all};
@@ -36,7 +36,7 @@ pub(crate) fn run_checking<S: Source>(
     difference: &mut Option<Difference>,
 ) -> Status
     ensures checked { (sink : SinkState) (seeds : SeedState) → IsChecking strict seed.old
-        (λ (calls : List ReadCall). S.came source.old calls source.new)
+        (λ (calls : List ReadCall). S.after_calls source.old calls source.new)
         (outside (S.state source.old) sink seeds) (outside (S.state source.new) sink seeds) result }
     ensures wiped { seed.new ≡ replicate 32 0 }
 {
@@ -57,7 +57,7 @@ fn check_source<S: Source>(
     difference: &mut Option<Difference>,
 ) -> Status
     ensures { (sink : SinkState) (seeds : SeedState) → IsChecking strict seed.now
-        (λ (calls : List ReadCall). S.came source.old calls source.new)
+        (λ (calls : List ReadCall). S.after_calls source.old calls source.new)
         (outside (S.state source.old) sink seeds) (outside (S.state source.new) sink seeds) result }
 {
     let input = match read_all(alloc, source, CERTIFICATE_LIMITS) {
@@ -77,15 +77,15 @@ fn check_input(
     input: &[u8],
     difference: &mut Option<Difference>,
 ) -> Status
-    ensures { SaysOfInput strict seed.now input.now result }
+    ensures { StatusOfInput strict seed.now input.now result }
 {
-    let parts = parted(input);
+    let parts = split_input(input);
     let part = match parts {
         Some((part, _)) => part,
         None => input,
     };
     let lines = line_count(part);
-    if part.len() > MOST_INPUT_BYTES || lines > MOST_INPUT_LINES {
+    if part.len() > MAX_INPUT_BYTES || lines > MAX_INPUT_LINES {
         return Status::TooLong;
     }
     let mut script = match read_script(alloc, part) {
@@ -113,7 +113,7 @@ fn check_text(
     difference: &mut Option<Difference>,
 ) -> Status
     requires { IsSpelled script.now }
-    ensures { SaysOfLog strict seed.now script.now log.now result }
+    ensures { StatusOfLog strict seed.now script.now log.now result }
 {
     match verdict(alloc, strict, seed, script, log) {
         Ok(Verdict::Certified) => Status::Done,
@@ -134,7 +134,7 @@ fn verdict(
     log: &[u8],
 ) -> Result<Verdict, AllocError>
     requires { IsSpelled script.now }
-    ensures { IfOk result (Says strict seed.now script.now log.now) }
+    ensures { IfOk result (IsVerdictOf strict seed.now script.now log.now) }
 {
     let mount = Mount::new(alloc)?;
     let mut one = OneMount { mount };

@@ -5,7 +5,7 @@ ghost use Rattle.script_lang.specs.Spelled.{IsSpelled};
 use crate::one_mount::OneMount;
 use argon_kdf::PlainStretch;
 use item_list::Bytes;
-use log_check::{Due, due_behind};
+use log_check::{Due, expected_after};
 use mount_shared::Mount;
 use script_lang::Script;
 use std::alloc::{AllocError, Global};
@@ -36,7 +36,7 @@ pub(crate) fn difference_at(
 {
     let mount = Mount::new(alloc).ok()?;
     let mut one = OneMount { mount };
-    match due_behind(alloc, &PlainStretch, script, seed, log, place, &mut one) {
+    match expected_after(alloc, &PlainStretch, script, seed, log, place, &mut one) {
         Ok(Some(due)) => difference_of(alloc, log, place, due).ok(),
         _ => None,
     }
@@ -49,7 +49,7 @@ fn difference_of(
     place: u64,
     due: Due,
 ) -> Result<Difference, AllocError> {
-    let rest = behind_lines(log, place);
+    let rest = after_lines(log, place);
     let is_last = rest.is_empty() || rest.starts_with(b"note ");
     let (in_log, in_run, command) = match &due {
         Due::Line { line, command } => (first_line(rest), first_line(line.as_slice()), *command),
@@ -67,7 +67,7 @@ fn difference_of(
 }
 
 // Returns the text after its first `count` lines.
-fn behind_lines(text: &[u8], count: u64) -> &[u8] {
+fn after_lines(text: &[u8], count: u64) -> &[u8] {
     let mut rest = text;
     for _ in 0..count {
         rest = next_line(rest).rest;

@@ -13,7 +13,7 @@ use crate::form::Seeding;
 use crate::replay::prepare;
 use crate::status::Status;
 use crate::streams::Streams;
-use crate::summary::wants_memory;
+use crate::summary::is_any_out_of_memory;
 use crate::writing::write_text;
 use argon_kdf::PlainStretch;
 use byte_words::wipe;
@@ -21,7 +21,7 @@ use fsc_outside::{Gate, SeedSource, Sink, Source};
 use item_list::Bytes;
 use mount_shared::Mount;
 use script_lang::Script;
-use script_runs::{Told, rotate};
+use script_runs::{RunOutput, rotate};
 use std::alloc::{AllocError, Global};
 use tree_image::write_image;
 
@@ -37,8 +37,8 @@ pub(crate) fn run_dumping<S: Source, K: Sink, E: SeedSource, G: Gate>(
         (E.state streams.old.seeds) in
         let after = outside (S.state streams.new.source) (K.state streams.new.sink)
         (E.state streams.new.seeds) in
-        let came = λ (calls : List ReadCall). S.came streams.old.source calls streams.new.source in
-        IsReplay IsImageOfRun came (Given seed.old) before after result }
+        let after_calls = λ (calls : List ReadCall). S.after_calls streams.old.source calls streams.new.source in
+        IsReplay IsImageOfRun after_calls (Given seed.old) before after result }
     ensures wiped { seed.new ≡ replicate 32 0 }
 {
     let mut seeding = Seeding::Given(*seed);
@@ -66,7 +66,7 @@ fn run_on_mount<G: Gate>(
     script: &Script,
     seed: &[u8; 32],
     gate: &G,
-) -> Result<(Told, Mount), AllocError>
+) -> Result<(RunOutput, Mount), AllocError>
     requires { IsSpelled script.now }
     ensures { IfOk result (λ r. RanOnMount seed.now script.now r.0.entries.items r.0.notes.items r.1.state) }
 {
@@ -75,7 +75,7 @@ fn run_on_mount<G: Gate>(
 }
 
 // Returns the image of the mount that a run left. Drops the mount once its image is made.
-fn image_of(alloc: Global, told: Told, mount: Mount) -> Result<Bytes, AllocError>
+fn image_of(alloc: Global, told: RunOutput, mount: Mount) -> Result<Bytes, AllocError>
     ensures { IfOk result (λ text. (seed : List ℕ) (script : List Section)
         → RanOnMount seed script told.entries.items told.notes.items mount.state
         → IsImageOfRun seed script text) }
@@ -85,12 +85,12 @@ fn image_of(alloc: Global, told: Told, mount: Mount) -> Result<Bytes, AllocError
 
 // The same for a borrowed mount. Fails if a call of the run was out of memory, since the image would depend
 // on which call that was.
-fn image_left(alloc: Global, told: &Told, mount: &Mount) -> Result<Bytes, AllocError>
+fn image_left(alloc: Global, told: &RunOutput, mount: &Mount) -> Result<Bytes, AllocError>
     ensures { IfOk result (λ text. (seed : List ℕ) (script : List Section)
         → RanOnMount seed script told.now.entries.items told.now.notes.items mount.now.state
         → IsImageOfRun seed script text) }
 {
-    if wants_memory(told.entries.as_slice()) {
+    if is_any_out_of_memory(told.entries.as_slice()) {
         return Err(AllocError);
     }
     let text = write_image(alloc, &mount.state.disk)?;

@@ -2,9 +2,9 @@
 
 ghost use Rattle.std.specs.Prelude.{◌≡◌, ◌∷◌, [], map, string_bytes};
 ghost use Rattle.fsc_tool.specs.ReplayForms as spec;
-ghost use Rattle.fsc_tool.specs.Forms.{checked_of, form_of, generated_behind, generated_of};
+ghost use Rattle.fsc_tool.specs.Forms.{checked_of, form_of, generated_after, generated_of};
 ghost use Rattle.fsc_tool.specs.Forms.{inspected_of};
-ghost use Rattle.fsc_tool.specs.ReplayForms.{linked_of, replay_of, seed_given, seeding_of};
+ghost use Rattle.fsc_tool.specs.ReplayForms.{linked_of, replay_of, given_seed, seeding_of};
 ghost use Rattle.fsc_tool.specs.Forms.{without_threads};
 
 use crate::seed::wipe_seeding;
@@ -76,11 +76,11 @@ fn form_of(words: &[String]) -> Option<ToolForm>
     ensures { result ≡ form_of (map string_bytes words.now) }
 {
     let (verb, words) = words.split_first()?;
-    form_behind(verb.as_str(), words)
+    form_of_rest(verb.as_str(), words)
 }
 
 // Returns the form of the verb and the arguments after it.
-fn form_behind(verb: &str, words: &[String]) -> Option<ToolForm>
+fn form_of_rest(verb: &str, words: &[String]) -> Option<ToolForm>
     ensures { result ≡ form_of (verb.now ∷ map string_bytes words.now) }
 {
     match verb {
@@ -145,7 +145,7 @@ fn read_replay(words: &[String]) -> Option<ToolForm>
 }
 
 fn replayed(way: Way, seeding: Option<Seeding>) -> Option<ToolForm>
-    ensures { result ≡ spec.replayed way seeding }
+    ensures { result ≡ spec.replay_form way seeding }
 {
     let seeding = seeding?;
     Some(ToolForm::Replay { way, seeding })
@@ -163,7 +163,7 @@ fn read_seeding(words: &[String]) -> Option<Seeding>
 
 // Returns the seed that the arguments give in 64 hexadecimal digits.
 fn read_given_seed(words: &[String]) -> Option<[u8; 32]>
-    ensures { result ≡ seed_given (map string_bytes words.now) }
+    ensures { result ≡ given_seed (map string_bytes words.now) }
 {
     if words.len() != 2 {
         return None;
@@ -182,13 +182,13 @@ fn read_linked(words: &[String]) -> Option<ToolForm>
         return None;
     }
     if words[0].as_str() == "--serial" {
-        return replayed_linked(Way::InTurn, read_given_seed(&words[1..]));
+        return linked_replay_form(Way::InTurn, read_given_seed(&words[1..]));
     }
-    replayed_linked(Way::InThreads, read_given_seed(words))
+    linked_replay_form(Way::InThreads, read_given_seed(words))
 }
 
-fn replayed_linked(way: Way, seed: Option<[u8; 32]>) -> Option<ToolForm>
-    ensures { result ≡ spec.replayed_linked way seed }
+fn linked_replay_form(way: Way, seed: Option<[u8; 32]>) -> Option<ToolForm>
+    ensures { result ≡ spec.linked_replay_form way seed }
 {
     let seed = seed?;
     Some(ToolForm::ReplayLinked { way, seed })
@@ -222,7 +222,7 @@ fn read_generated(words: &[String]) -> Option<ToolForm>
 
 // Returns the form of the arguments after the number.
 fn read_behind_number(words: &[String], number: u32) -> Option<ToolForm>
-    ensures { result ≡ generated_behind (map string_bytes words.now) number }
+    ensures { result ≡ generated_after (map string_bytes words.now) number }
 {
     if words.is_empty() {
         return Some(ToolForm::Generate(number));

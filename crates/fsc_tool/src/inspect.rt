@@ -30,7 +30,7 @@ pub(crate) fn run_inspecting<S: Source, K: Sink>(
     sink: &mut K,
 ) -> Status
     ensures inspected { (seeds : SeedState) → IsInspection raw.old
-        (λ (calls : List ReadCall). S.came source.old calls source.new)
+        (λ (calls : List ReadCall). S.after_calls source.old calls source.new)
         (outside (S.state source.old) (K.state sink.old) seeds)
         (outside (S.state source.new) (K.state sink.new) seeds) result }
     ensures wiped { raw.new ≡ wiped_key raw.old }
@@ -48,10 +48,10 @@ pub(crate) fn run_inspecting<S: Source, K: Sink>(
 // is its own, so that what it leaves on the stack is below the frame that wipes it.
 #[inline(never)]
 fn listing<S: Source>(alloc: Global, raw: &Option<RawKey>, source: &mut S) -> Result<Bytes, Status>
-    ensures listed { IfOk result (HasListing raw.now (λ calls. S.came source.old calls source.new)
+    ensures listed { IfOk result (HasListing raw.now (λ calls. S.after_calls source.old calls source.new)
         (S.state source.old) (S.state source.new)) }
     ensures ended { IfErr result (λ status. (sink : SinkState) (seeds : SeedState)
-        → EndsInspection raw.now (λ calls. S.came source.old calls source.new)
+        → EndsInspection raw.now (λ calls. S.after_calls source.old calls source.new)
         (outside (S.state source.old) sink seeds) (outside (S.state source.new) sink seeds) status) }
 {
     let input = match read_all(alloc, source, IMAGE_LIMITS) {

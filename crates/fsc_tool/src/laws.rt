@@ -1,15 +1,15 @@
 //! Laws of logs that are checked and of dumps that are listed, each a function whose contract is the law.
 
-ghost use Rattle.fsc_tool.specs.CheckLaws.{LogsArePartedFromScripts, PrintedLogsAreCertified};
+ghost use Rattle.fsc_tool.specs.CheckLaws.{LogsAreSplitFromScripts, PrintedLogsAreCertified};
 ghost use Rattle.fsc_tool.specs.CheckLaws.{PrintedLogsAreNotRefused};
 ghost use Rattle.fsc_tool.specs.DumpLaws.{DumpsAreListed, DumpsAreListedWhole, RunsCarryNonces};
 
 use fsc_outside::Source;
-use listing_laws::{mount_images_are_images, mount_images_are_short, mounts_are_told};
+use listing_laws::{mount_images_are_images, mount_images_are_short, mount_images_list_mounts};
 
 /// The text after a script and a line `---` is read as the log of that script.
-pub fn logs_are_parted_from_scripts()
-    ensures { LogsArePartedFromScripts }
+pub fn logs_are_split_from_scripts()
+    ensures { LogsAreSplitFromScripts }
 {}
 
 /// The log of a run of the one-thread mount is never refused after its script, if no two different raw keys
@@ -35,10 +35,10 @@ pub fn runs_carry_nonces()
 /// the sink fails or there is no memory. Both hold if no two different raw keys of the script's history
 /// share an identifier, and no other of them shares one with the listing's raw key.
 pub fn dumps_are_listed<S: Source>()
-    ensures listing { DumpsAreListed S.came }
-    ensures whole { DumpsAreListedWhole S.came }
+    ensures listing { DumpsAreListed S.after_calls }
+    ensures whole { DumpsAreListedWhole S.after_calls }
 {
     mount_images_are_images();
     mount_images_are_short();
-    mounts_are_told();
+    mount_images_list_mounts();
 }

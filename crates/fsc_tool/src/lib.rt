@@ -12,9 +12,9 @@ mod limits;
 mod linked;
 mod linked_apart;
 mod one_mount;
-mod parting;
 mod replay;
 mod seed;
+mod splitting;
 mod status;
 mod streams;
 mod summary;
@@ -23,10 +23,10 @@ mod writing;
 
 pub use difference::Difference;
 pub use laws::{
-    dumps_are_listed, logs_are_parted_from_scripts, printed_logs_are_certified,
+    dumps_are_listed, logs_are_split_from_scripts, printed_logs_are_certified,
     printed_logs_are_not_refused, runs_carry_nonces,
 };
-pub use limits::{MOST_CERTIFICATE_BYTES, MOST_INPUT_BYTES, MOST_INPUT_LINES};
+pub use limits::{MAX_CERTIFICATE_BYTES, MAX_INPUT_BYTES, MAX_INPUT_LINES};
 pub use linked_turns::Mounts;
 pub use status::Status;
 pub use streams::Streams;

@@ -1,30 +1,30 @@
 //! The limits of an input.
 
 use fsc_outside::InputLimits;
-use image_lines::MOST_IMAGE_BYTES;
+use image_lines::MAX_IMAGE_BYTES;
 
 /// The maximum number of bytes of an input.
-pub const MOST_INPUT_BYTES: usize = 1_048_576;
+pub const MAX_INPUT_BYTES: usize = 1_048_576;
 
 /// The maximum number of lines of an input. A last piece without a line feed counts as one.
-pub const MOST_INPUT_LINES: usize = 20_000;
+pub const MAX_INPUT_LINES: usize = 20_000;
 
 /// The maximum number of bytes of a script with a log after it. Some scripts have longer logs.
-pub const MOST_CERTIFICATE_BYTES: usize = 67_108_864;
+pub const MAX_CERTIFICATE_BYTES: usize = 67_108_864;
 
 pub(crate) const CERTIFICATE_LIMITS: InputLimits = InputLimits {
-    bytes: MOST_CERTIFICATE_BYTES,
+    bytes: MAX_CERTIFICATE_BYTES,
     // No text of that many bytes has more lines.
-    lines: MOST_CERTIFICATE_BYTES + 1,
+    lines: MAX_CERTIFICATE_BYTES + 1,
 };
 
 pub(crate) const IMAGE_LIMITS: InputLimits = InputLimits {
-    bytes: MOST_IMAGE_BYTES,
+    bytes: MAX_IMAGE_BYTES,
     // No text of that many bytes has more lines.
-    lines: MOST_IMAGE_BYTES + 1,
+    lines: MAX_IMAGE_BYTES + 1,
 };
 
 pub(crate) const INPUT_LIMITS: InputLimits = InputLimits {
-    bytes: MOST_INPUT_BYTES,
-    lines: MOST_INPUT_LINES,
+    bytes: MAX_INPUT_BYTES,
+    lines: MAX_INPUT_LINES,
 };

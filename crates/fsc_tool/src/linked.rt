@@ -18,13 +18,13 @@ use crate::writing::write_text;
 use argon_kdf::PlainStretch;
 use byte_words::wipe;
 use fsc_outside::{Gate, SeedSource, Sink, Source};
-use linked_turns::{LinkedTold, Mounts, linked_log, run_linked_in_rotation};
+use linked_turns::{LinkedOutput, Mounts, linked_log, run_linked_in_rotation};
 use mount_shared::MountMachine;
 use std::alloc::Global;
 
 // Replays in rotation, with this seed and on two mounts, the script that the source gives. Writes both logs
 // and the notes into the sink, and wipes the seed.
-pub(crate) fn run_linked<
+pub(crate) fn replay_two<
     S: Source,
     K: Sink,
     E: SeedSource,
@@ -38,14 +38,14 @@ pub(crate) fn run_linked<
     gate: &G,
     mounts: Mounts<M, N>,
 ) -> Status
-    requires leads_even { M.leads [] mounts.even }
-    requires leads_odd { N.leads [] mounts.odd }
+    requires reaches_even { M.reaches [] mounts.even }
+    requires reaches_odd { N.reaches [] mounts.odd }
     ensures linked { let before = outside (S.state streams.old.source) (K.state streams.old.sink)
         (E.state streams.old.seeds) in
         let after = outside (S.state streams.new.source) (K.state streams.new.sink)
         (E.state streams.new.seeds) in
-        let came = λ (calls : List ReadCall). S.came streams.old.source calls streams.new.source in
-        IsReplay (IsLinkedLog M.lawful N.lawful) came (Given seed.old) before after result }
+        let after_calls = λ (calls : List ReadCall). S.after_calls streams.old.source calls streams.new.source in
+        IsReplay (IsLinkedLog M.lawful N.lawful) after_calls (Given seed.old) before after result }
     ensures wiped { seed.new ≡ replicate 32 0 }
 {
     let mut seeding = Seeding::Given(*seed);
@@ -60,12 +60,16 @@ pub(crate) fn run_linked<
         Ok(told) => told,
         Err(_) => return Status::NoMemory,
     };
-    finish_linked(alloc, told, &mut streams.sink)
+    finish_linked_replay(alloc, told, &mut streams.sink)
 }
 
 // Writes both logs and the notes of a run on two mounts into the sink, once they are complete. Returns how
 // the run ends.
-pub(crate) fn finish_linked<K: Sink>(alloc: Global, told: LinkedTold, sink: &mut K) -> Status
+pub(crate) fn finish_linked_replay<K: Sink>(
+    alloc: Global,
+    told: LinkedOutput,
+    sink: &mut K,
+) -> Status
     ensures { EndsLog (linked_text (entries_of told.even.items) (entries_of told.odd.items) told.notes.items)
         (K.state sink.old) (K.state sink.new) result }
 {

@@ -8,7 +8,7 @@ ghost use Rattle.fsc_tool.specs.Replay.{IsReplay};
 ghost use Rattle.fsc_tool.specs.declared.form.Seeding.TheVariants.{Given};
 
 use crate::form::Seeding;
-use crate::linked::finish_linked;
+use crate::linked::finish_linked_replay;
 use crate::replay::prepare;
 use crate::status::Status;
 use crate::streams::Streams;
@@ -40,14 +40,14 @@ pub(crate) fn run_linked_apart<
     gate: &G,
     mounts: Mounts<M, N>,
 ) -> Status
-    requires leads_even { M.leads [] mounts.even }
-    requires leads_odd { N.leads [] mounts.odd }
+    requires reaches_even { M.reaches [] mounts.even }
+    requires reaches_odd { N.reaches [] mounts.odd }
     ensures linked { let before = outside (S.state streams.old.source) (K.state streams.old.sink)
         (E.state streams.old.seeds) in
         let after = outside (S.state streams.new.source) (K.state streams.new.sink)
         (E.state streams.new.seeds) in
-        let came = λ (calls : List ReadCall). S.came streams.old.source calls streams.new.source in
-        IsReplay (IsLinkedLogOfThreads M.lawful N.lawful) came (Given seed.old) before after result }
+        let after_calls = λ (calls : List ReadCall). S.after_calls streams.old.source calls streams.new.source in
+        IsReplay (IsLinkedLogOfThreads M.lawful N.lawful) after_calls (Given seed.old) before after result }
     ensures wiped { seed.new ≡ replicate 32 0 }
 {
     let mut seeding = Seeding::Given(*seed);
@@ -63,5 +63,5 @@ pub(crate) fn run_linked_apart<
         Ok(told) => told,
         Err(_) => return Status::NoMemory,
     };
-    finish_linked(alloc, told, &mut streams.sink)
+    finish_linked_replay(alloc, told, &mut streams.sink)
 }

@@ -1,7 +1,7 @@
 //! The mount that answers the calls of a log that is checked.
 
-ghost use Rattle.mount_shared.specs.StandsAfter.{StandsAfter};
-ghost use Rattle.mount_shared.specs.StandsLaws.{StandsAfter-wanting};
+ghost use Rattle.mount_shared.specs.IsStateAfter.{IsStateAfter};
+ghost use Rattle.mount_shared.specs.StateLaws.{IsStateAfter-wanting};
 
 use log_check::OneThread;
 use mount_model::{Call, Reply};
@@ -15,15 +15,15 @@ pub(crate) struct OneMount {
 }
 
 impl OneThread for OneMount {
-    ghost led = { λ history one. StandsAfter history one.mount.state };
+    ghost reached_by = { λ history one. IsStateAfter history one.mount.state };
 
     fn answer(&mut self, caller: u32, call: &Call) -> Reply {
         let lent = self.mount.begin(caller, call);
         Mount::finish(lent)
     }
 
-    ghost led_lawful = { λ history one led. led.lawful };
+    ghost reached_lawful = { λ history one reached_by. reached_by.lawful };
 
-    ghost led_without_memory = { λ history one caller call fits takes led.
-        StandsAfter-wanting history caller call one.mount.state takes led };
+    ghost led_without_memory = { λ history one caller call fits takes reached_by.
+        IsStateAfter-wanting history caller call one.mount.state takes reached_by };
 }

@@ -5,7 +5,7 @@ ghost use Rattle.std.specs.Prelude.{◌≡◌, ◌++◌, [], replicate, IfOk, If
 ghost use Rattle.call_history.specs.Placed.{entries_of};
 ghost use Rattle.fsc_outside.specs.States.{SinkState};
 ghost use Rattle.reply_text.specs.Notes.{notes_text};
-ghost use Rattle.reply_text.specs.Shown.{shown_log};
+ghost use Rattle.reply_text.specs.Logged.{log_of_history};
 ghost use Rattle.fsc_tool.specs.declared.status.Status.TheVariants.{NoMemory};
 ghost use Rattle.script_lang.specs.Spelled.{IsSpelled};
 ghost use Rattle.fsc_tool.specs.Ends.{Ends};
@@ -26,9 +26,9 @@ use fsc_outside::{InputFault, SeedSource, Sink, Source, read_all};
 use fsc_session::scrub_stack;
 use item_list::Bytes;
 use mount_model::Reply;
-use reply_text::{Note, Shown, write_log, write_notes};
+use reply_text::{LoggedCall, Note, write_log, write_notes};
 use script_lang::{Script, ScriptFault, read_script, wipe_script};
-use script_runs::{Told, history_of};
+use script_runs::{RunOutput, history_of};
 use std::alloc::{AllocError, Global};
 
 // What a run starts from.
@@ -59,12 +59,12 @@ pub(crate) fn prepare<S: Source, E: SeedSource>(
     source: &mut S,
     seeds: &mut E,
 ) -> Result<Box<Prepared>, Status>
-    ensures prepared { IfOk result (λ run. IsPrepared (λ calls. S.came source.old calls source.new)
+    ensures prepared { IfOk result (λ run. IsPrepared (λ calls. S.after_calls source.old calls source.new)
         seeding.old (S.state source.old) (S.state source.new) (E.state seeds.old) (E.state seeds.new)
         run.value.script run.value.seed) }
     ensures spelled { IfOk result (λ run. IsSpelled run.value.script) }
     ensures ended { IfErr result (λ status. (sink : SinkState)
-        → Ends NoText (λ calls. S.came source.old calls source.new) seeding.old
+        → Ends NoText (λ calls. S.after_calls source.old calls source.new) seeding.old
         (outside (S.state source.old) sink (E.state seeds.old))
         (outside (S.state source.new) sink (E.state seeds.new)) status) }
     ensures wiped { seeding.new ≡ wiped_seeding seeding.old }
@@ -84,12 +84,12 @@ fn prepare_unscrubbed<S: Source, E: SeedSource>(
     source: &mut S,
     seeds: &mut E,
 ) -> Result<Box<Prepared>, Status>
-    ensures prepared { IfOk result (λ run. IsPrepared (λ calls. S.came source.old calls source.new)
+    ensures prepared { IfOk result (λ run. IsPrepared (λ calls. S.after_calls source.old calls source.new)
         seeding.now (S.state source.old) (S.state source.new) (E.state seeds.old) (E.state seeds.new)
         run.value.script run.value.seed) }
     ensures spelled { IfOk result (λ run. IsSpelled run.value.script) }
     ensures ended { IfErr result (λ status. (sink : SinkState)
-        → Ends NoText (λ calls. S.came source.old calls source.new) seeding.now
+        → Ends NoText (λ calls. S.after_calls source.old calls source.new) seeding.now
         (outside (S.state source.old) sink (E.state seeds.old))
         (outside (S.state source.new) sink (E.state seeds.new)) status) }
 {
@@ -158,8 +158,8 @@ pub(crate) fn script_status(fault: ScriptFault) -> Status
 }
 
 // Writes the log of a run into the sink, once it is complete. Returns how the run ends.
-pub(crate) fn finish<K: Sink>(alloc: Global, told: Told, sink: &mut K) -> Status
-    ensures { EndsLog (shown_log (entries_of told.entries.items) ++ notes_text told.notes.items)
+pub(crate) fn finish<K: Sink>(alloc: Global, told: RunOutput, sink: &mut K) -> Status
+    ensures { EndsLog (log_of_history (entries_of told.entries.items) ++ notes_text told.notes.items)
         (K.state sink.old) (K.state sink.new) result }
 {
     let log = match log_of(alloc, told) {
@@ -170,9 +170,9 @@ pub(crate) fn finish<K: Sink>(alloc: Global, told: Told, sink: &mut K) -> Status
 }
 
 // Returns the log of the entries, whose places are their numbers, followed by the notes.
-fn log_of(alloc: Global, told: Told) -> Result<Bytes, AllocError>
+fn log_of(alloc: Global, told: RunOutput) -> Result<Bytes, AllocError>
     ensures { IfOk result (λ log.
-        log ≡ shown_log (entries_of told.entries.items) ++ notes_text told.notes.items) }
+        log ≡ log_of_history (entries_of told.entries.items) ++ notes_text told.notes.items) }
 {
     let history = history_of(alloc, told.entries)?;
     whole_log(alloc, history.as_slice(), told.notes.as_slice())
@@ -181,10 +181,10 @@ fn log_of(alloc: Global, told: Told) -> Result<Bytes, AllocError>
 // Returns the log of a history, followed by the notes.
 pub(crate) fn whole_log(
     alloc: Global,
-    history: &[Entry<Shown, Reply>],
+    history: &[Entry<LoggedCall, Reply>],
     notes: &[Note],
 ) -> Result<Bytes, AllocError>
-    ensures { IfOk result (λ log. log ≡ shown_log history.now ++ notes_text notes.now) }
+    ensures { IfOk result (λ log. log ≡ log_of_history history.now ++ notes_text notes.now) }
 {
     let mut log = write_log(alloc, history)?.into_vec();
     let mut notes = write_notes(alloc, notes)?.into_vec();

@@ -2,13 +2,13 @@
 
 ghost use Rattle.std.specs.Prelude.{◌≡◌, ◌++◌, count_by, IfOk, OnOk};
 ghost use Rattle.std.specs.List.{list_any};
-ghost use Rattle.mount_model.specs.History.{is_want_of_memory};
+ghost use Rattle.mount_model.specs.History.{is_out_of_memory};
 ghost use Rattle.fsc_tool.specs.Summary as spec;
 
 use call_history::Entry;
 use item_list::Bytes;
 use mount_model::{Refusal, Reply};
-use reply_text::Shown;
+use reply_text::LoggedCall;
 use sha2::{Digest, Sha256};
 use std::alloc::{AllocError, Global};
 use text_words::{push_decimal, push_lower_hex};
@@ -17,7 +17,7 @@ use text_words::{push_decimal, push_lower_hex};
 #[tactic(auto, unfolding(crate::specs::Summary::summary_text))]
 pub(crate) fn summary_text(
     alloc: Global,
-    history: &[Entry<Shown, Reply>],
+    history: &[Entry<LoggedCall, Reply>],
     log: &[u8],
 ) -> Result<Bytes, AllocError>
     ensures { IfOk result (λ text. text ≡ spec.summary_text history.now log.now) }
@@ -44,7 +44,7 @@ fn put_count(text: &mut Vec<u8>, word: &[u8], count: usize) -> Result<(), AllocE
 }
 
 // Returns how many calls were refused.
-fn refused(history: &[Entry<Shown, Reply>]) -> usize
+fn refused(history: &[Entry<LoggedCall, Reply>]) -> usize
     ensures { result ≡ count_by (λ e. spec.is_refusal e.reply) history.now }
 {
     history
@@ -54,7 +54,7 @@ fn refused(history: &[Entry<Shown, Reply>]) -> usize
 }
 
 // Returns how many removals found a key in use.
-fn busy(history: &[Entry<Shown, Reply>]) -> usize
+fn busy(history: &[Entry<LoggedCall, Reply>]) -> usize
     ensures { result ≡ count_by (λ e. spec.is_busy_removal e.reply) history.now }
 {
     history
@@ -81,8 +81,8 @@ fn is_busy_removal(reply: &Reply) -> bool
 }
 
 // Returns whether a call was out of memory.
-pub(crate) fn wants_memory(entries: &[(u64, Entry<Shown, Reply>)]) -> bool
-    ensures { result ≡ list_any (λ placed. is_want_of_memory placed.1.reply) entries.now }
+pub(crate) fn is_any_out_of_memory(entries: &[(u64, Entry<LoggedCall, Reply>)]) -> bool
+    ensures { result ≡ list_any (λ placed. is_out_of_memory placed.1.reply) entries.now }
 {
     entries.iter().any(|(_, entry)| matches!(entry.reply, Reply::Refused(Refusal::NoMemory)))
 }

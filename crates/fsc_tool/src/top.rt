@@ -16,7 +16,7 @@ use crate::dump::run_dumping;
 use crate::form::{Seeding, ToolForm, Way, leave_threads, read_form, wipe_words};
 use crate::gen_runs::{run_generating, run_summarising};
 use crate::inspect::run_inspecting;
-use crate::linked::run_linked;
+use crate::linked::replay_two;
 use crate::linked_apart::run_linked_apart;
 use crate::replay::{finish, prepare};
 use crate::status::Status;
@@ -69,14 +69,14 @@ pub fn tool<
     gate: &G,
     mounts: Mounts<M, N>,
 ) -> Status
-    requires leads_even { M.leads [] mounts.even }
-    requires leads_odd { N.leads [] mounts.odd }
+    requires reaches_even { M.reaches [] mounts.even }
+    requires reaches_odd { N.reaches [] mounts.odd }
     ensures run { let before = outside (S.state streams.old.source) (K.state streams.old.sink)
         (E.state streams.old.seeds) in
         let after = outside (S.state streams.new.source) (K.state streams.new.sink)
         (E.state streams.new.seeds) in
-        let came = λ (calls : List ReadCall). S.came streams.old.source calls streams.new.source in
-        IsToolRun M.lawful N.lawful came (map string_bytes words.old.items) before after result }
+        let after_calls = λ (calls : List ReadCall). S.after_calls streams.old.source calls streams.new.source in
+        IsToolRun M.lawful N.lawful after_calls (map string_bytes words.old.items) before after result }
     ensures words { words.new.items
         ≡ option_map_or (λ form. []) (form_of (map string_bytes words.old.items)) words.old.items }
 {
@@ -121,14 +121,14 @@ pub fn tool_serial<S: Source, K: Sink, E: SeedSource, M: MountMachine, N: MountM
     streams: &mut Streams<S, K, E>,
     mounts: Mounts<M, N>,
 ) -> Status
-    requires leads_even { M.leads [] mounts.even }
-    requires leads_odd { N.leads [] mounts.odd }
+    requires reaches_even { M.reaches [] mounts.even }
+    requires reaches_odd { N.reaches [] mounts.odd }
     ensures { let before = outside (S.state streams.old.source) (K.state streams.old.sink)
         (E.state streams.old.seeds) in
         let after = outside (S.state streams.new.source) (K.state streams.new.sink)
         (E.state streams.new.seeds) in
-        let came = λ (calls : List ReadCall). S.came streams.old.source calls streams.new.source in
-        IsSerialToolRun M.lawful N.lawful came (map string_bytes words.now.items) before after result }
+        let after_calls = λ (calls : List ReadCall). S.after_calls streams.old.source calls streams.new.source in
+        IsSerialToolRun M.lawful N.lawful after_calls (map string_bytes words.now.items) before after result }
 {
     let mut form = None;
     read_form(words, &mut form);
@@ -147,15 +147,15 @@ fn run_in_turns<S: Source, K: Sink, E: SeedSource, G: Gate, M: MountMachine, N: 
     gate: &G,
     mounts: Mounts<M, N>,
 ) -> Status
-    requires leads_even { M.leads [] mounts.even }
-    requires leads_odd { N.leads [] mounts.odd }
+    requires reaches_even { M.reaches [] mounts.even }
+    requires reaches_odd { N.reaches [] mounts.odd }
     requires in_turns { without_threads (Some form.old) ≡ Some form.old }
     ensures run { let before = outside (S.state streams.old.source) (K.state streams.old.sink)
         (E.state streams.old.seeds) in
         let after = outside (S.state streams.new.source) (K.state streams.new.sink)
         (E.state streams.new.seeds) in
-        let came = λ (calls : List ReadCall). S.came streams.old.source calls streams.new.source in
-        IsRunIn M.lawful N.lawful came (Some form.old) before after result }
+        let after_calls = λ (calls : List ReadCall). S.after_calls streams.old.source calls streams.new.source in
+        IsRunIn M.lawful N.lawful after_calls (Some form.old) before after result }
     ensures form { result ≢ Usage }
 {
     match form {
@@ -187,7 +187,7 @@ fn run_in_turns<S: Source, K: Sink, E: SeedSource, G: Gate, M: MountMachine, N: 
             &mut streams.source,
             &mut streams.difference,
         ),
-        ToolForm::ReplayLinked { way: _, seed } => run_linked(alloc, seed, streams, gate, mounts),
+        ToolForm::ReplayLinked { way: _, seed } => replay_two(alloc, seed, streams, gate, mounts),
     }
 }
 
@@ -199,13 +199,13 @@ fn replay_in_rotation<S: Source, K: Sink, E: SeedSource, G: Gate, M: MountMachin
     gate: &G,
     machine: M,
 ) -> Status
-    requires { M.leads [] machine }
+    requires { M.reaches [] machine }
     ensures { let before = outside (S.state streams.old.source) (K.state streams.old.sink)
         (E.state streams.old.seeds) in
         let after = outside (S.state streams.new.source) (K.state streams.new.sink)
         (E.state streams.new.seeds) in
-        let came = λ (calls : List ReadCall). S.came streams.old.source calls streams.new.source in
-        IsReplay (IsLogOfRun (IsSerialRun M.lawful)) came seeding.old before after result }
+        let after_calls = λ (calls : List ReadCall). S.after_calls streams.old.source calls streams.new.source in
+        IsReplay (IsLogOfRun (IsSerialRun M.lawful)) after_calls seeding.old before after result }
 {
     let mut run = match prepare(alloc, seeding, &mut streams.source, &mut streams.seeds) {
         Ok(run) => run,
@@ -237,13 +237,13 @@ fn replay_in_threads<
     gate: &G,
     machine: M,
 ) -> Status
-    requires { M.leads [] machine }
+    requires { M.reaches [] machine }
     ensures { let before = outside (S.state streams.old.source) (K.state streams.old.sink)
         (E.state streams.old.seeds) in
         let after = outside (S.state streams.new.source) (K.state streams.new.sink)
         (E.state streams.new.seeds) in
-        let came = λ (calls : List ReadCall). S.came streams.old.source calls streams.new.source in
-        IsReplay (IsLogOfRun (IsLawfulRun M.lawful)) came seeding.old before after result }
+        let after_calls = λ (calls : List ReadCall). S.after_calls streams.old.source calls streams.new.source in
+        IsReplay (IsLogOfRun (IsLawfulRun M.lawful)) after_calls seeding.old before after result }
 {
     let mut run = match prepare(alloc, seeding, &mut streams.source, &mut streams.seeds) {
         Ok(run) => run,

@@ -6,7 +6,9 @@ use crate::asked::Asked;
 use crate::bad_line::shown;
 use crate::help::remark;
 use crate::inspect_advice::fault_of_inspect;
-use crate::seed_advice::{DUMP, fault_of_check, fault_of_linked, fault_of_replay, fault_of_seed};
+use crate::seed_advice::{
+    DUMP, fault_of_check, fault_of_linked_arguments, fault_of_replay, fault_of_seed,
+};
 use fsc_tool::Status;
 use std::alloc::Global;
 use std::io::IsTerminal;
@@ -51,7 +53,7 @@ const DIGITS_OF_HALF_A_SEED: usize = 32;
 const NUMBER_OF_GEN: &str = "gen takes a number from 0 to 4294967295, without leading zeros";
 
 /// Prints on standard error that a script or an image is expected, if standard input is a terminal.
-pub(crate) fn tell_of_waiting(rt: &HostRuntime, words: &[String], asked: Asked) {
+pub(crate) fn print_waiting_notice(rt: &HostRuntime, words: &[String], asked: Asked) {
     let Some(input) = asked.input() else {
         return;
     };
@@ -64,17 +66,17 @@ pub(crate) fn tell_of_waiting(rt: &HostRuntime, words: &[String], asked: Asked) 
 /// Prints on standard error that the arguments are no form: the number of the first at fault, the argument
 /// itself, and the remedy. The argument itself is not printed if it may be a seed, or there is no memory
 /// for it.
-pub(crate) fn advise_words(rt: &HostRuntime, words: &[String]) {
+pub(crate) fn advise_arguments(rt: &HostRuntime, words: &[String]) {
     let _ = rt.eprintln(Status::Usage);
     match fault_of(words) {
-        Some(fault) if fault.place < words.len() => tell_of_word(rt, words, fault),
+        Some(fault) if fault.place < words.len() => report_word(rt, words, fault),
         Some(fault) => remark(rt, fault.remedy),
         None => {}
     }
 }
 
 // Prints the argument at fault.
-fn tell_of_word(rt: &HostRuntime, words: &[String], fault: WordFault)
+fn report_word(rt: &HostRuntime, words: &[String], fault: WordFault)
     requires { fault.place < length words.now }
 {
     let number = fault.place + 1;
@@ -114,7 +116,7 @@ fn fault_of(words: &[String]) -> Option<WordFault> {
     };
     match first.as_str() {
         "replay" => fault_of_replay(behind),
-        "replay-linked" => fault_of_linked(behind),
+        "replay-linked" => fault_of_linked_arguments(behind),
         "gen" => fault_of_gen(behind),
         "dump" => fault_of_seed(behind, 1, &DUMP),
         "check" => fault_of_check(behind),

@@ -1,20 +1,20 @@
 //! What is printed for a line at fault: its first word alone, since the words after it may be secrets, why
 //! it is at fault, and the remedy.
 
-use crate::commands::form_named;
+use crate::commands::form_of_name;
 use crate::help::remark;
-use script_faults::{FaultyLine, LineFault, WordKind, line_fault_behind};
+use script_faults::{FaultyLine, LineFault, WordKind, line_fault_after};
 use std::alloc::{AllocError, Global};
 use text_words::{next_line, nth_word};
 
 // The maximal number of characters that are printed of a word.
-const MOST_SHOWN: usize = 60;
+const MAX_PRINTED: usize = 60;
 
 /// The maximal number of lines at fault that are printed in one run.
-pub(crate) const MOST_LINES_TOLD: usize = 20;
+pub(crate) const MAX_LINES_PRINTED: usize = 20;
 
 // More bytes than any input that is read has, and few enough that each line has a number.
-const MOST_NUMBERED_BYTES: usize = 4_294_967_295;
+const MAX_NUMBERED_BYTES: usize = 4_294_967_295;
 
 const LISTED: &str = "fsc --help lists the commands";
 
@@ -33,7 +33,7 @@ static SPARE_WORDS: [(&str, &str); 3] = [
 
 // What is printed for a line at fault.
 #[derive(Drop)]
-struct ToldLine {
+struct ReportedLine {
     word: String,
     fault: LineFault,
     remedy: &'static str,
@@ -43,7 +43,7 @@ struct ToldLine {
 /// the text wasn't stored, or there is no memory to read it, only that number is known.
 pub(crate) fn show_lines(rt: &HostRuntime, text: Option<&[u8]>, line: u32, most: usize) {
     let is_told = match text {
-        Some(text) => tell_lines(rt, text, most),
+        Some(text) => print_lines(rt, text, most),
         None => false,
     };
     if !is_told {
@@ -54,7 +54,7 @@ pub(crate) fn show_lines(rt: &HostRuntime, text: Option<&[u8]>, line: u32, most:
 // Prints each line at fault, up to `most` of them. Returns false if there is no memory to find the first.
 // After a line at fault a caller counts as begun, so that no command is printed only because no caller
 // precedes it.
-fn tell_lines(rt: &HostRuntime, text: &[u8], most: usize) -> bool {
+fn print_lines(rt: &HostRuntime, text: &[u8], most: usize) -> bool {
     let mut reached = Reached {
         rest: text,
         lines: 0,
@@ -68,12 +68,12 @@ fn tell_lines(rt: &HostRuntime, text: &[u8], most: usize) -> bool {
         let Ok(word) = shown(rt.alloc(), line) else {
             return number > 0;
         };
-        let told = ToldLine {
+        let told = ReportedLine {
             word,
             fault: found.fault,
             remedy: remedy(line, found.fault),
         };
-        tell_line(rt, found.line, &told);
+        print_line(rt, found.line, &told);
     }
     if most > 1 {
         remark(rt, "further lines are not looked at");
@@ -92,11 +92,11 @@ struct Reached<'t> {
 impl<'t> Reached<'t> {
     // Returns the next line at fault, if there is one and memory to find it.
     fn next_fault(&self, alloc: Global) -> Option<FaultyLine> {
-        let room = MOST_NUMBERED_BYTES - self.lines as usize;
+        let room = MAX_NUMBERED_BYTES - self.lines as usize;
         if self.rest.len() > room || self.callers > self.lines as usize {
             return None;
         }
-        line_fault_behind(alloc, self.lines, self.callers, self.rest).ok()?
+        line_fault_after(alloc, self.lines, self.callers, self.rest).ok()?
     }
 
     // Continues after the line of this number, which is at fault, and returns it.
@@ -119,7 +119,7 @@ impl<'t> Reached<'t> {
 }
 
 // Prints what is known of the line of this number.
-fn tell_line(rt: &HostRuntime, line: u32, told: &ToldLine) {
+fn print_line(rt: &HostRuntime, line: u32, told: &ReportedLine) {
     let word = told.word.as_str();
     let fault = told.fault;
     let remedy = told.remedy;
@@ -142,7 +142,7 @@ pub(crate) fn first_word(line: &[u8]) -> &[u8] {
 /// Returns the first word of a text, cut to 60 characters.
 pub(crate) fn shown(alloc: Global, text: &[u8]) -> Result<String, AllocError> {
     let mut word = String::new(alloc);
-    for byte in first_word(text).iter().take(MOST_SHOWN) {
+    for byte in first_word(text).iter().take(MAX_PRINTED) {
         word.push(char::from(*byte))?;
     }
     Ok(word)
@@ -234,7 +234,7 @@ fn form_of(line: &[u8]) -> &'static str {
     if name == b"caller".as_slice() {
         return "caller UID";
     }
-    match form_named(name) {
+    match form_of_name(name) {
         Some(form) => form,
         None => LISTED,
     }

@@ -7,12 +7,12 @@ pub(crate) struct Group {
 }
 
 /// Returns the name of the command that the word is, if it is one.
-pub(crate) fn verb_named(word: &[u8]) -> Option<&'static str> {
-    form_named(word).map(name_of)
+pub(crate) fn verb_name_of(word: &[u8]) -> Option<&'static str> {
+    form_of_name(word).map(name_of)
 }
 
 /// Returns the words of the command of this name, if there is one: `read HANDLE OFFSET LENGTH`.
-pub(crate) fn form_named(word: &[u8]) -> Option<&'static str> {
+pub(crate) fn form_of_name(word: &[u8]) -> Option<&'static str> {
     for group in GROUPS.iter() {
         for &(form, _) in group.lines.iter() {
             if name_of(form).as_bytes() == word {

@@ -6,16 +6,16 @@ use item_list::Bytes;
 use std::alloc::{AllocError, Global};
 
 // The maximal number of characters that are printed of a line.
-const MOST_SHOWN_OF_A_LINE: usize = 400;
+const MAX_PRINTED_OF_LINE: usize = 400;
 
 /// Prints on standard error what the log has at the place of its refusal, and what a run has there.
-pub(crate) fn tell_difference(rt: &HostRuntime, found: &Difference) {
+pub(crate) fn print_difference(rt: &HostRuntime, found: &Difference) {
     if found.is_last {
         remark(rt, "that is after the last entry of the log");
     }
-    tell_line(rt, "the log has", found.in_log.as_ref(), None);
-    tell_line(rt, "a run has", found.in_run.as_ref(), found.command);
-    tell_of_equal_lines(rt, found);
+    print_line(rt, "the log has", found.in_log.as_ref(), None);
+    print_line(rt, "a run has", found.in_run.as_ref(), found.command);
+    report_equal_lines(rt, found);
     if ends_in_carriage_return(found.in_log.as_ref()) {
         remark(
             rt,
@@ -25,7 +25,7 @@ pub(crate) fn tell_difference(rt: &HostRuntime, found: &Difference) {
 }
 
 // Prints why the log is refused if both lines look the same.
-fn tell_of_equal_lines(rt: &HostRuntime, found: &Difference) {
+fn report_equal_lines(rt: &HostRuntime, found: &Difference) {
     let (Some(own), Some(other)) = (&found.in_log, &found.in_run) else {
         return;
     };
@@ -40,14 +40,14 @@ fn tell_of_equal_lines(rt: &HostRuntime, found: &Difference) {
 
 // Returns the beginning of a line that is printed.
 fn shown_part(line: &[u8]) -> &[u8] {
-    match line.get(..MOST_SHOWN_OF_A_LINE) {
+    match line.get(..MAX_PRINTED_OF_LINE) {
         Some(part) => part,
         None => line,
     }
 }
 
 // Prints which side has which line, and for a call the line of the script with its command.
-fn tell_line(rt: &HostRuntime, who: &str, line: Option<&Bytes>, command: Option<u32>) {
+fn print_line(rt: &HostRuntime, who: &str, line: Option<&Bytes>, command: Option<u32>) {
     let Some(line) = line else {
         let _ = eprintln!(rt; "fsc: {who}: nothing more");
         return;

@@ -1,7 +1,7 @@
 //! The help text of the program, and after a status the remedy.
 
 use crate::asked::Asked;
-use crate::bad_line::{MOST_LINES_TOLD, first_word, show_lines};
+use crate::bad_line::{MAX_LINES_PRINTED, first_word, show_lines};
 use crate::commands::GROUPS;
 use fsc_tool::Status;
 use script_faults::is_usable;
@@ -145,8 +145,8 @@ pub(crate) fn advise(rt: &HostRuntime, asked: Asked, status: Status, text: Optio
         Status::Refused { .. } => remark(rt, REFUSED),
         Status::BadLine { line } => advise_on_line(rt, asked, line, text),
         Status::Usage => remark(rt, "a word of the command line is no text"),
-        Status::ReadFault => tell_of_input(rt, asked),
-        Status::WriteFault => tell_of_output(rt, asked),
+        Status::ReadFault => report_input(rt, asked),
+        Status::WriteFault => report_output(rt, asked),
         Status::SeedFault => remark(rt, "the machine gave no seed: give one by --seed HEX64"),
         Status::TooLong => remark(rt, asked.most()),
         Status::NoMemory => remark(rt, "run it again where more memory is free"),
@@ -165,12 +165,12 @@ fn advise_on_line(rt: &HostRuntime, asked: Asked, line: u32, text: Option<&[u8]>
             if !is_parted {
                 remark(rt, NO_PARTING_LINE);
             }
-            if !is_behind(text, line) {
-                let most = if is_parted { MOST_LINES_TOLD } else { 1 };
+            if !is_after_line(text, line) {
+                let most = if is_parted { MAX_LINES_PRINTED } else { 1 };
                 show_lines(rt, text.map(|text| script_part(text)), line, most);
             }
         }
-        _ => show_lines(rt, text, line, MOST_LINES_TOLD),
+        _ => show_lines(rt, text, line, MAX_LINES_PRINTED),
     }
 }
 
@@ -201,7 +201,7 @@ fn is_parted(text: Option<&[u8]>) -> bool {
 
 // Whether the line of this number is after the text's last one, if the text is known. A last piece without
 // a line feed counts as a line, as it does when the text is read.
-fn is_behind(text: Option<&[u8]>, line: u32) -> bool {
+fn is_after_line(text: Option<&[u8]>, line: u32) -> bool {
     match text {
         Some(text) => line_count(text) < line as usize,
         None => false,
@@ -209,7 +209,7 @@ fn is_behind(text: Option<&[u8]>, line: u32) -> bool {
 }
 
 // Prints the remedy if standard input failed.
-fn tell_of_input(rt: &HostRuntime, asked: Asked) {
+fn report_input(rt: &HostRuntime, asked: Asked) {
     let input = match asked.input() {
         Some(input) => input.name,
         None => "script",
@@ -218,7 +218,7 @@ fn tell_of_input(rt: &HostRuntime, asked: Asked) {
 }
 
 // Prints the remedy if the output failed.
-fn tell_of_output(rt: &HostRuntime, asked: Asked) {
+fn report_output(rt: &HostRuntime, asked: Asked) {
     let output = asked.output();
     let _ = eprintln!(rt;
         "fsc: what was written is a beginning of the {output}; free some space and run it again"

@@ -5,9 +5,9 @@ use crate::bad_line::is_hexadecimal;
 
 const RAW: &str = "raw:";
 
-const LEAST_KEY_DIGITS: usize = 64;
+const MIN_KEY_DIGITS: usize = 64;
 
-const MOST_KEY_DIGITS: usize = 128;
+const MAX_KEY_DIGITS: usize = 128;
 
 // Returns the first argument at fault after `inspect`.
 pub(crate) fn fault_of_inspect(words: &[String]) -> Option<WordFault> {
@@ -24,8 +24,8 @@ fn is_raw_key(word: &str) -> bool {
         return false;
     };
     word.starts_with(RAW)
-        && digits.len() >= LEAST_KEY_DIGITS
-        && digits.len() <= MOST_KEY_DIGITS
+        && digits.len() >= MIN_KEY_DIGITS
+        && digits.len() <= MAX_KEY_DIGITS
         && digits.len() % 2 == 0
         && is_hexadecimal(digits)
 }

@@ -3,14 +3,14 @@
 use crate::lines::{CommandLine, CommandLines};
 use byte_words::wipe;
 use fsc_outside::{Failed, Source};
-use fsc_tool::MOST_INPUT_BYTES;
+use fsc_tool::MAX_INPUT_BYTES;
 use std::alloc::Global;
 use std::sync::{Mutex, OnceLock};
 
 /// The text that was read, and the lines of its commands. The source that stores it and the gate that drops
 /// it share it. No call waits for its lock, since the source is done when the gate begins.
 #[derive(Drop)]
-pub(crate) struct KeptText {
+pub(crate) struct RecordedText {
     // `None` if the whole text couldn't be stored, and after `forget`.
     text: Mutex<Option<Vec<u8>>>,
     // What was found at the end of the text, if the lines are asked for.
@@ -18,10 +18,10 @@ pub(crate) struct KeptText {
     finds_lines: bool,
 }
 
-impl KeptText {
+impl RecordedText {
     /// Returns an empty text. Takes no memory.
-    pub(crate) fn new(alloc: Global, finds_lines: bool) -> KeptText {
-        KeptText {
+    pub(crate) fn new(alloc: Global, finds_lines: bool) -> RecordedText {
+        RecordedText {
             text: Mutex::new(Some(Vec::new(alloc))),
             lines: OnceLock::new(),
             finds_lines,
@@ -81,21 +81,21 @@ impl KeptText {
 // grows: a move would leave its secrets in freed memory. Returns false if the text is longer than a script,
 // or there was no memory.
 fn put_behind(text: &mut Vec<u8>, bytes: &[u8]) -> bool {
-    let room = (MOST_INPUT_BYTES + 1).saturating_sub(text.len());
+    let room = (MAX_INPUT_BYTES + 1).saturating_sub(text.len());
     bytes.len() <= room && text.reserve_exact(room).is_ok() && text.extend_from_slice(bytes).is_ok()
 }
 
 /// A source whose bytes are stored.
 #[derive(Drop)]
-pub(crate) struct KeptSource<'a, S: Source + Drop> {
+pub(crate) struct RecordedSource<'a, S: Source + Drop> {
     source: S,
     alloc: Global,
-    kept: &'a KeptText,
+    kept: &'a RecordedText,
 }
 
-impl<'a, S: Source + Drop> KeptSource<'a, S> {
-    pub(crate) fn new(alloc: Global, source: S, kept: &'a KeptText) -> KeptSource<'a, S> {
-        KeptSource {
+impl<'a, S: Source + Drop> RecordedSource<'a, S> {
+    pub(crate) fn new(alloc: Global, source: S, kept: &'a RecordedText) -> RecordedSource<'a, S> {
+        RecordedSource {
             source,
             alloc,
             kept,
@@ -103,10 +103,10 @@ impl<'a, S: Source + Drop> KeptSource<'a, S> {
     }
 }
 
-impl<'a, S: Source + Drop> Source for KeptSource<'a, S> {
+impl<'a, S: Source + Drop> Source for RecordedSource<'a, S> {
     ghost state = { λ kept. S.state kept.source };
 
-    ghost came = { λ old calls new. S.came old.source calls new.source };
+    ghost after_calls = { λ old calls new. S.after_calls old.source calls new.source };
 
     ghost by_none = { λ kept. S.by_none kept.source };
 

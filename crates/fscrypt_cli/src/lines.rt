@@ -1,8 +1,8 @@
 //! The lines of a script's commands.
 
 use crate::bad_line::first_word;
-use crate::commands::verb_named;
-use fsc_tool::MOST_INPUT_LINES;
+use crate::commands::verb_name_of;
+use fsc_tool::MAX_INPUT_LINES;
 use std::alloc::{AllocError, Global};
 use text_words::next_line;
 
@@ -27,7 +27,7 @@ impl CommandLines {
             callers: Vec::new(alloc),
         };
         let mut rest = text;
-        for before in 0..MOST_INPUT_LINES {
+        for before in 0..MAX_INPUT_LINES {
             if rest.is_empty() {
                 break;
             }
@@ -46,7 +46,7 @@ impl CommandLines {
             return Ok(());
         }
         if let Some(commands) = self.callers.last_mut() {
-            if let Some(verb) = verb_named(word) {
+            if let Some(verb) = verb_name_of(word) {
                 commands.push(CommandLine { line, verb })?;
             }
         }

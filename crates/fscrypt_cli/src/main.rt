@@ -14,15 +14,15 @@ mod lines;
 mod seed_advice;
 mod telling;
 
-use advice::{advise_words, tell_of_waiting};
+use advice::{advise_arguments, print_waiting_notice};
 use asked::Asked;
 use byte_words::wipe;
 use caused::CausedSink;
-use difference::tell_difference;
+use difference::print_difference;
 use fsc_outside::{RuntimeSeed, StdSource, write_all};
 use fsc_tool::{Difference, Mounts, Status, Streams, tool};
 use help::{VERSION, advise, help_text, remark};
-use kept::{KeptSource, KeptText};
+use kept::{RecordedSource, RecordedText};
 use mount_shared::Mount;
 use std::io::{ErrorKind, IsTerminal};
 use std::process::ExitCode;
@@ -59,7 +59,7 @@ fn main(rt: HostRuntime) -> ExitCode {
         }
     };
     match words.as_slice() {
-        [word] if word.as_str() == "--help" => tell_help(&rt),
+        [word] if word.as_str() == "--help" => print_help(&rt),
         [word] if word.as_str() == "--version" => tell(&rt, VERSION),
         _ => run(&rt, &rt, &mut words),
     }
@@ -79,7 +79,7 @@ fn words_of(rt: &HostRuntime) -> Result<Vec<String>, Status> {
 }
 
 // Prints the help text.
-fn tell_help(rt: &HostRuntime) -> ExitCode {
+fn print_help(rt: &HostRuntime) -> ExitCode {
     match help_text(rt.alloc()) {
         Ok(text) => tell(rt, text.as_str()),
         Err(_) => end(rt, Asked::Other, NO_MEMORY, None),
@@ -109,18 +109,18 @@ fn run<R: Threads + Wait + Sync>(
 ) -> ExitCode {
     let asked = Asked::of(words.as_slice());
     let is_terminal = rt.stderr().is_terminal();
-    let kept = KeptText::new(rt.alloc(), is_terminal);
+    let kept = RecordedText::new(rt.alloc(), is_terminal);
     let mut difference = None;
     let ended = run_tool(rt, threads, words, asked, &kept, &mut difference);
     let code = match ended.status {
         Status::Usage => {
-            advise_words(rt, words.as_slice());
+            advise_arguments(rt, words.as_slice());
             ExitCode::from(Status::Usage.number())
         }
         _ => end_run(rt, asked, ended, &kept),
     };
     if let Some(found) = &difference {
-        tell_difference(rt, found);
+        print_difference(rt, found);
     }
     kept.forget();
     code
@@ -133,7 +133,7 @@ fn run_tool<R: Threads + Wait + Sync>(
     threads: &R,
     words: &mut Vec<String>,
     asked: Asked,
-    kept: &KeptText,
+    kept: &RecordedText,
     difference: &mut Option<Difference>,
 ) -> Ended {
     let Ok(even) = Mount::new(rt.alloc()) else {
@@ -142,9 +142,9 @@ fn run_tool<R: Threads + Wait + Sync>(
     let Ok(odd) = Mount::new(rt.alloc()) else {
         return NO_MEMORY;
     };
-    tell_of_waiting(rt, words.as_slice(), asked);
+    print_waiting_notice(rt, words.as_slice(), asked);
     let mut streams = Streams {
-        source: KeptSource::new(rt.alloc(), StdSource::new(rt), kept),
+        source: RecordedSource::new(rt.alloc(), StdSource::new(rt), kept),
         sink: CausedSink::over(rt.stdout()),
         seeds: RuntimeSeed::new(rt),
         difference: None,
@@ -161,7 +161,7 @@ fn run_tool<R: Threads + Wait + Sync>(
 
 // The same as `end` for a run. If a line of its input is at fault, the line is printed; then the input is
 // wiped.
-fn end_run(rt: &HostRuntime, asked: Asked, ended: Ended, kept: &KeptText) -> ExitCode {
+fn end_run(rt: &HostRuntime, asked: Asked, ended: Ended, kept: &RecordedText) -> ExitCode {
     let Some(mut text) = kept.take() else {
         return end(rt, asked, ended, None);
     };

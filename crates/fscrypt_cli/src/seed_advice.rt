@@ -108,7 +108,7 @@ fn remedy_of_option(word: &str) -> &'static str {
 }
 
 /// Returns the first argument at fault after `replay-linked`.
-pub(crate) fn fault_of_linked(words: &[String]) -> Option<WordFault> {
+pub(crate) fn fault_of_linked_arguments(words: &[String]) -> Option<WordFault> {
     match words {
         [option, behind @ ..] if option.as_str() == "--serial" => fault_of_seed(
             behind,

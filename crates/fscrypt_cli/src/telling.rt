@@ -1,6 +1,6 @@
 //! What is printed of a run while it runs.
 
-use crate::kept::KeptText;
+use crate::kept::RecordedText;
 use crate::lines::CommandLine;
 use fsc_outside::Gate;
 use std::io::IsTerminal;
@@ -22,14 +22,14 @@ pub(crate) fn clear_command(rt: &HostRuntime) {
 #[derive(Drop)]
 pub(crate) struct TellingGate<'a> {
     rt: &'a HostRuntime,
-    kept: &'a KeptText,
+    kept: &'a RecordedText,
     is_terminal: bool,
 }
 
 impl<'a> TellingGate<'a> {
     pub(crate) fn new(
         rt: &'a HostRuntime,
-        kept: &'a KeptText,
+        kept: &'a RecordedText,
         is_terminal: bool,
     ) -> TellingGate<'a> {
         TellingGate {

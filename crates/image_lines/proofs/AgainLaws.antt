@@ -17,14 +17,14 @@ use Rattle.image_lines.specs.declared.node_line.NodeLine.{NodeLine}
 use Rattle.image_lines.specs.declared.place.Place.{Place}
 use Rattle.image_lines.specs.declared.place.Place.TheVariants.{AtHeader, AtRoot, InDir, Behind}
 use Rattle.image_lines.specs.Image.{Image, ImageNode}
-use Rattle.image_lines.specs.ImageText.{header, node_line, entry_line, block_line, told_kind, line_of, body_lines, node_lines}
+use Rattle.image_lines.specs.ImageText.{header, node_line, entry_line, block_line, kind_of_body, line_of, body_lines, node_lines}
 use Rattle.image_lines.specs.Rules.{HasGoodLines}
 use Rattle.image_lines.specs.NodeRules.{IsEntry, IsBody, IsNode, blocks_for}
-use Rattle.image_lines.specs.Lines.{node_told, entry_told, block_told}
+use Rattle.image_lines.specs.Lines.{node_of_line, entry_of_line, block_of_line}
 use Rattle.image_lines.specs.LineFaults.{may_end, or_fault, line_fault_from}
 use Rattle.image_lines.specs.NextPlaces.{step}
-use Rattle.image_lines.specs.NodeLines.{place_behind, behind_node, is_dir, is_root, next_node}
-use Rattle.image_lines.specs.Told.{entries_at, blocks_at, body_at, node_at, with_node_at, nodes_at}
+use Rattle.image_lines.specs.NodeLines.{place_after, after_node, is_dir, is_root, next_node}
+use Rattle.image_lines.specs.WordForms.{entries_at, blocks_at, body_at, node_at, with_node_at, nodes_at}
 use Rattle.image_lines.proofs.Telling.{passes}
 use Rattle.image_lines.proofs.LineLaws.{IsNodeLine, node_told_again, entry_told_again, block_told_again}
 use Rattle.image_lines.proofs.LineLaws.{node_is_no_entry, entry_is_no_node, block_is_no_node}
@@ -77,12 +77,12 @@ below number n h = of (nat_lt number n) (number == n) refl refl
     of false true e f = absurd (cc (rw (e, f) at h))
     of false false e f = absurd (cc (rw (e, f) at h))
 
-next_again : (number : ℕ) (node : NodeLine) → IsNodeLine node → nat_cmp number node.number ≡ Less → next_node number (node_line node) ≡ Some (behind_node node)
+next_again : (number : ℕ) (node : NodeLine) → IsNodeLine node → nat_cmp number node.number ≡ Less → next_node number (node_line node) ≡ Some (after_node node)
 next_again number node is above =
-    ap (option_map behind_node) (passes (λ n. nat_lt number n.number) (node_told (node_line node)) node (node_told_again node is) (below number node.number above))
+    ap (option_map after_node) (passes (λ n. nat_lt number n.number) (node_of_line (node_line node)) node (node_told_again node is) (below number node.number above))
 
 step_node : (number : ℕ) (place : Place) (node : NodeLine) → IsBehind number place → IsNodeLine node → nat_cmp number node.number ≡ Less
-    → step place (node_line node) ≡ Some (behind_node node)
+    → step place (node_line node) ≡ Some (after_node node)
 step_node number AtHeader node h is above = absurd h
 step_node number AtRoot node h is above = absurd h
 step_node number (InDir n under_policy last) node h is above =
@@ -120,7 +120,7 @@ module _ (number : ℕ) (image : Image) (later : (k : ℕ) (place : Place) → I
       not_none left count e = ne_eqb left 0 (λ z. omega (arith, z, e))
 
   body_again : (under_policy : Bool) (b : Body) → IsBody under_policy b → (k : ℕ)
-      → line_fault_from k (place_behind number under_policy (told_kind b)) (body_lines b ++ lines_of image) ≡ None
+      → line_fault_from k (place_after number under_policy (kind_of_body b)) (body_lines b ++ lines_of image) ≡ None
   body_again under_policy (body.Dir es) is k = entries_again under_policy [] es (entries_of_rules under_policy es is) k
   body_again under_policy (body.File blocks size) is k = blocks_again (blocks_for size) blocks is.1 (recursion_from_All (AreBytesOfLength 4096) blocks is.2) k
   body_again under_policy (body.Link target) is k = later k (Behind number 0) (refl, refl)
@@ -134,13 +134,13 @@ pub nodes_again : (image : Image) (number : ℕ) → AreNodes number image → (
 nodes_again [] number are k place h = ends k place (behind_may_end number place h)
 nodes_again (node ∷ image) number are k place h =
     ap (line_fault_from k place) (in_front node image)
-    ∙ goes_on k place (behind_node (line_of node)) (node_line (line_of node)) (body_lines node.body ++ lines_of image) (some_left (body_lines node.body) image)
+    ∙ goes_on k place (after_node (line_of node)) (node_line (line_of node)) (body_lines node.body ++ lines_of image) (some_left (body_lines node.body) image)
     (step_node number place (line_of node) h (line_from_node node are.each.0) are.rising.0)
     (body_again node.number image (nodes_again image node.number (record { each = are.each.1; rising = are.rising.1 })) (is_some node.context) node.body are.each.0.body)
 
 -- ---- the whole
 
-root_kind : (b : Body) → IsDir b → is_dir (told_kind b) ≡ true
+root_kind : (b : Body) → IsDir b → is_dir (kind_of_body b) ≡ true
 root_kind (body.Dir es) h = refl
 root_kind (body.File blocks size) h = absurd h
 root_kind (body.Link target) h = absurd h
@@ -152,22 +152,22 @@ image_again (root ∷ nodes) good =
     let told = node_told_again (line_of root) (line_from_node root are.0) in
     let first : (root.number == 0) ≡ true = eq-eqb root.number 0 good.root.0 in
     let plain : is_none root.context ≡ true = ap is_none good.root.1 in
-    let fits : step AtRoot (node_line (line_of root)) ≡ Some (behind_node (line_of root)) =
-    ap (option_map behind_node) (passes is_root (node_told (node_line (line_of root))) (line_of root) told (and_from (root.number == 0) _ first (and_from _ _ plain (root_kind root.body good.root.2)))) in
+    let fits : step AtRoot (node_line (line_of root)) ≡ Some (after_node (line_of root)) =
+    ap (option_map after_node) (passes is_root (node_of_line (node_line (line_of root))) (line_of root) told (and_from (root.number == 0) _ first (and_from _ _ plain (root_kind root.body good.root.2)))) in
     goes_on 1 AtHeader AtRoot header (lines_of (root ∷ nodes)) (some_left [] (root ∷ nodes)) refl
     (λ k. ap (line_fault_from k AtRoot) (in_front root nodes)
-    ∙ goes_on k AtRoot (behind_node (line_of root)) (node_line (line_of root)) (body_lines root.body ++ lines_of nodes) (some_left (body_lines root.body) nodes) fits
+    ∙ goes_on k AtRoot (after_node (line_of root)) (node_line (line_of root)) (body_lines root.body ++ lines_of nodes) (some_left (body_lines root.body) nodes) fits
     (body_again root.number nodes (nodes_again nodes root.number are.1) (is_some root.context) root.body are.0.body))
 
 -- ---- what they are read as
 
 no_entry_first : (image : Image) → entries_at (lines_of image) ≡ []
-unfolding entries_at entry_told
+unfolding entries_at entry_of_line
 no_entry_first [] = refl
 no_entry_first (node ∷ image) = refl
 
 no_block_first : (image : Image) → blocks_at (lines_of image) ≡ []
-unfolding blocks_at block_told
+unfolding blocks_at block_of_line
 no_block_first [] = refl
 no_block_first (node ∷ image) = refl
 
@@ -195,7 +195,7 @@ unfolding nodes_at
 over_blocks [] ps = refl
 over_blocks (b ∷ blocks) ps = let none = block_is_no_node b in rw none (over_blocks blocks ps)
 
-body_told : (under_policy : Bool) (b : Body) (image : Image) → IsBody under_policy b → body_at (told_kind b) (body_lines b ++ lines_of image) ≡ b
+body_told : (under_policy : Bool) (b : Body) (image : Image) → IsBody under_policy b → body_at (kind_of_body b) (body_lines b ++ lines_of image) ≡ b
 body_told under_policy (body.Dir es) image is =
     ap body.Dir (entries_told under_policy es (lines_of image) (recursion_from_All (IsEntry under_policy) es is.0) (no_entry_first image))
 body_told under_policy (body.File blocks size) image is =
@@ -208,7 +208,7 @@ over_body (body.File blocks size) image = over_blocks blocks (lines_of image)
 over_body (body.Link target) image = refl
 
 none_told : nodes_at ([] ∷ []) ≡ []
-unfolding nodes_at node_told
+unfolding nodes_at node_of_line
 none_told = refl
 
 pub nodes_told : (image : Image) → AllByRecursion IsNode image → nodes_at (lines_of image) ≡ image

@@ -12,7 +12,7 @@ use Rattle.image_lines.specs.ImageText.{image_text}
 use Rattle.image_lines.specs.Rules.{IsImage}
 use Rattle.image_lines.specs.Reading.{image_read}
 use Rattle.image_lines.specs.ChildFaults.{child_fault, child_fault_from}
-use Rattle.image_lines.specs.Told.{nodes_at}
+use Rattle.image_lines.specs.WordForms.{nodes_at}
 use Rattle.image_lines.specs.LineFaults.{line_fault}
 use Rattle.image_lines.specs.Places.{DoRise, node_of_place, numbers_at}
 use Rattle.image_lines.specs.ReadFaults.{IsFault, IsReadFault}

@@ -15,7 +15,7 @@ use Rattle.disk_tree.specs.Nodes.{IsDir}
 use Rattle.disk_tree.specs.declared.node.Body.{Body}
 use Rattle.disk_tree.specs.declared.node.Body.TheVariants as body
 use Rattle.image_lines.specs.Image.{Image, ImageNode, numbers_of}
-use Rattle.image_lines.specs.ImageText.{told_kind, line_of}
+use Rattle.image_lines.specs.ImageText.{kind_of_body, line_of}
 use Rattle.image_lines.specs.Rules.{HasGoodLines}
 use Rattle.image_lines.specs.NodeRules.{IsEntry, IsBody, IsNode}
 use Rattle.image_lines.specs.StoredNames.{may_be_part, is_entry_name}
@@ -67,7 +67,7 @@ entries_of_rules under_policy es is =
     above (e ∷ es) each = (above_none e.0 (name_is_long under_policy e.0 each.0.name).0, above es each.1)
 
 -- the rules of a node are those of its line and of its body
-pub kind_from_body : (under_policy : Bool) (b : Body) → IsBody under_policy b → IsKind under_policy (told_kind b)
+pub kind_from_body : (under_policy : Bool) (b : Body) → IsBody under_policy b → IsKind under_policy (kind_of_body b)
 kind_from_body under_policy (body.Dir es) is = tt
 kind_from_body under_policy (body.File blocks size) is = is.0
 kind_from_body under_policy (body.Link target) is = is

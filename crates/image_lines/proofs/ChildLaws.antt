@@ -14,8 +14,8 @@ use Rattle.image_lines.specs.Image.{Image, ImageNode, numbers_of, all_entries, c
 use Rattle.image_lines.specs.ImageText.{header, entry_line, block_line, body_lines, node_lines, line_of}
 use Rattle.image_lines.specs.Rules.{HasGoodChildren}
 use Rattle.image_lines.specs.NodeRules.{IsEntry, IsBody, IsNode}
-use Rattle.image_lines.specs.Lines.{entry_told}
-use Rattle.image_lines.specs.ChildFaults.{may_lead_to, behind_entry, child_fault_from}
+use Rattle.image_lines.specs.Lines.{entry_of_line}
+use Rattle.image_lines.specs.ChildFaults.{may_name_child, after_entry, child_fault_from}
 use Rattle.image_lines.proofs.LineLaws.{entry_told_again, node_is_no_entry, block_is_no_entry}
 use Rattle.image_lines.proofs.Bodies.{entry_line_from}
 use Rattle.image_lines.proofs.ReadingLaws.{lines_of}
@@ -28,23 +28,23 @@ if_entry (Some e) others = e ∷ others
 
 told : List (List ℕ) → Entries
 told [] = []
-told (line ∷ lines) = if_entry (entry_told line) (told lines)
+told (line ∷ lines) = if_entry (entry_of_line line) (told lines)
 
 -- each may refer to its child, after the earlier ones
 abbrev AreLed : List ℕ → List ℕ → Entries → Type 0
 AreLed numbers earlier [] = ⊤
-AreLed numbers earlier (e ∷ es) = (may_lead_to numbers earlier e.1 ≡ true) × AreLed numbers (e.1 ∷ earlier) es
+AreLed numbers earlier (e ∷ es) = (may_name_child numbers earlier e.1 ≡ true) × AreLed numbers (e.1 ∷ earlier) es
 
 led_from_text : (numbers earlier : List ℕ) (k : ℕ) (ps : List (List ℕ)) → child_fault_from k numbers earlier ps ≡ None → AreLed numbers earlier (told ps)
 unfolding child_fault_from told
 led_from_text numbers earlier k [] h = tt
-led_from_text numbers earlier k (line ∷ ps) h = go (entry_told line) refl (λ more e. led_from_text numbers more (k + 1) ps e)
+led_from_text numbers earlier k (line ∷ ps) h = go (entry_of_line line) refl (λ more e. led_from_text numbers more (k + 1) ps e)
   where
-    go : (o : Option (List ℕ × ℕ)) → entry_told line ≡ o → ((more : List ℕ) → child_fault_from (k + 1) numbers more ps ≡ None → AreLed numbers more (told ps))
-        → AreLed numbers earlier (if_entry (entry_told line) (told ps))
+    go : (o : Option (List ℕ × ℕ)) → entry_of_line line ≡ o → ((more : List ℕ) → child_fault_from (k + 1) numbers more ps ≡ None → AreLed numbers more (told ps))
+        → AreLed numbers earlier (if_entry (entry_of_line line) (told ps))
     go None e later = rw e (later earlier (rw e at h))
     go (Some x) e later =
-        elim (cases_Bool (may_lead_to numbers earlier x.1)) [
+        elim (cases_Bool (may_name_child numbers earlier x.1)) [
           | inl fits ↦ rw e (fits, later (x.1 ∷ earlier) (rw (e, fits) at h))
           | inr unfit ↦ absurd (cc (rw (e, unfit) at h))
         ]
@@ -52,10 +52,10 @@ led_from_text numbers earlier k (line ∷ ps) h = go (entry_told line) refl (λ 
 text_from_led : (numbers earlier : List ℕ) (k : ℕ) (ps : List (List ℕ)) → AreLed numbers earlier (told ps) → child_fault_from k numbers earlier ps ≡ None
 unfolding child_fault_from told
 text_from_led numbers earlier k [] h = refl
-text_from_led numbers earlier k (line ∷ ps) h = go (entry_told line) refl (λ more e. text_from_led numbers more (k + 1) ps e)
+text_from_led numbers earlier k (line ∷ ps) h = go (entry_of_line line) refl (λ more e. text_from_led numbers more (k + 1) ps e)
   where
-    go : (o : Option (List ℕ × ℕ)) → entry_told line ≡ o → ((more : List ℕ) → AreLed numbers more (told ps) → child_fault_from (k + 1) numbers more ps ≡ None)
-        → behind_entry k numbers earlier (entry_told line) (λ more. child_fault_from (k + 1) numbers more ps) ≡ None
+    go : (o : Option (List ℕ × ℕ)) → entry_of_line line ≡ o → ((more : List ℕ) → AreLed numbers more (told ps) → child_fault_from (k + 1) numbers more ps ≡ None)
+        → after_entry k numbers earlier (entry_of_line line) (λ more. child_fault_from (k + 1) numbers more ps) ≡ None
     go None e later = rw e (later earlier (rw e at h))
     go (Some x) e later =
         let parts : AreLed numbers earlier (x ∷ told ps) = rw e at h in
@@ -71,7 +71,7 @@ behind_one (Some n) both xs ys e = ap (λ l. n ∷ l) e
 told_both : (xs ys : List (List ℕ)) → told (xs ++ ys) ≡ told xs ++ told ys
 unfolding told
 told_both [] ys = refl
-told_both (x ∷ xs) ys = behind_one (entry_told x) (told (xs ++ ys)) (told xs) (told ys) (told_both xs ys)
+told_both (x ∷ xs) ys = behind_one (entry_of_line x) (told (xs ++ ys)) (told xs) (told ys) (told_both xs ys)
 
 told_entries : (under_policy : Bool) (es : Entries) → AllByRecursion (IsEntry under_policy) es → told (map entry_line es) ≡ es
 unfolding told
@@ -96,15 +96,15 @@ unfolding told
 told_node node is = let none = node_is_no_entry (line_of node) in rw none (told_body (is_some node.context) node.body is.body)
 
 told_nodes : (image : Image) → AllByRecursion IsNode image → told (lines_of image) ≡ all_entries image
-unfolding told entry_told
+unfolding told entry_of_line
 told_nodes [] each = refl
 told_nodes (node ∷ image) each =
     ap told (append_assoc (node_lines node) (flat_map node_lines image) ([] ∷ []))
     ∙ told_both (node_lines node) (lines_of image)
     ∙ (λ i. told_node node each.0 i ++ told_nodes image each.1 i)
 
-header_is_no_entry : entry_told header ≡ None
-unfolding entry_told
+header_is_no_entry : entry_of_line header ≡ None
+unfolding entry_of_line
 header_is_no_entry = refl
 
 told_image : (image : Image) → AllByRecursion IsNode image → told (header ∷ lines_of image) ≡ all_entries image

@@ -7,8 +7,8 @@ use Rattle.std.proofs.lemmas.Bool.{eqb-true, eqb-false, cases_lt}
 use Rattle.std.proofs.lemmas.List.{nil_from_length, get_or-replicate, length-replicate, drop_all}
 use Rattle.text_words.specs.Lines.{is_line_feed, pieces_of}
 use Rattle.image_lines.specs.declared.round_of_lines.NodePlace.{NodePlace}
-use Rattle.image_lines.specs.Lines.{entry_told}
-use Rattle.image_lines.specs.ChildFaults.{behind_entry, child_fault_from, may_lead_to}
+use Rattle.image_lines.specs.Lines.{entry_of_line}
+use Rattle.image_lines.specs.ChildFaults.{after_entry, child_fault_from, may_name_child}
 use Rattle.image_lines.specs.Places.{numbers_at}
 use Rattle.image_lines.specs.Marks.{AreMarked, GoesOn}
 use Rattle.image_lines.proofs.RoundLemmas.{shorter}
@@ -36,13 +36,13 @@ unmarked places marks is =
 -- ---- one line
 
 last : (number : ℕ) (numbers earlier : List ℕ) → child_fault_from number numbers earlier ([] ∷ []) ≡ None
-unfolding child_fault_from entry_told
+unfolding child_fault_from entry_of_line
 last number numbers earlier = refl
 
 -- going over a line, whether a line feed ended it or not
 abbrev GoesOver : List ℕ → List ℕ → List ℕ → List ℕ → Type 0
 GoesOver numbers old line rest =
-    (k : ℕ) (earlier : List ℕ) → child_fault_from k numbers earlier (pieces_of old) ≡ behind_entry k numbers earlier (entry_told line) (λ more. child_fault_from (k + 1) numbers more (pieces_of rest))
+    (k : ℕ) (earlier : List ℕ) → child_fault_from k numbers earlier (pieces_of old) ≡ after_entry k numbers earlier (entry_of_line line) (λ more. child_fault_from (k + 1) numbers more (pieces_of rest))
 
 over_ended : (numbers old line rest : List ℕ) → pieces_of old ≡ line ∷ pieces_of rest → GoesOver numbers old line rest
 unfolding child_fault_from
@@ -52,7 +52,7 @@ over_unended : (numbers old line rest : List ℕ) → pieces_of old ≡ line ∷
 unfolding child_fault_from
 over_unended numbers old line rest cut none k earlier =
     ap (child_fault_from k numbers earlier) cut
-    ∙ ap (behind_entry k numbers earlier (entry_told line)) (λ i more. sym (ap (λ l. child_fault_from (k + 1) numbers more (pieces_of l)) none ∙ last (k + 1) numbers more) i)
+    ∙ ap (after_entry k numbers earlier (entry_of_line line)) (λ i more. sym (ap (λ l. child_fault_from (k + 1) numbers more (pieces_of l)) none ∙ last (k + 1) numbers more) i)
 
 pub none_behind : (old rest : List ℕ) (ended : Bool) → rest ≡ after_first is_line_feed old → (IsTrue ended ↔ (position_or_len is_line_feed old < length old)) → ended ≡ false → rest ≡ []
 none_behind old rest ended is exact open_end = is ∙ drop_all (position_or_len is_line_feed old + 1) old (omega (arith, beyond))
@@ -79,7 +79,7 @@ module _ (numbers text old line rest : List ℕ) (number : ℕ) (marks : List Bo
   counted = omega (arith, so.counted, less)
 
   -- a line that is no entry's
-  pub over_other : (new : List Bool) → entry_told line ≡ None → AreMarked numbers so.earlier new → SoFar numbers text rest (number + 1) new
+  pub over_other : (new : List Bool) → entry_of_line line ≡ None → AreMarked numbers so.earlier new → SoFar numbers text rest (number + 1) new
   over_other new none are = record {
     earlier = so.earlier;
     marked = are;
@@ -88,7 +88,7 @@ module _ (numbers text old line rest : List ℕ) (number : ℕ) (marks : List Bo
   }
 
   -- an entry that may refer to its child
-  pub over_entry : (name : List ℕ) (child : ℕ) (new : List Bool) → entry_told line ≡ Some (name, child) → true ≡ may_lead_to numbers so.earlier child
+  pub over_entry : (name : List ℕ) (child : ℕ) (new : List Bool) → entry_of_line line ≡ Some (name, child) → true ≡ may_name_child numbers so.earlier child
       → AreMarked numbers (child ∷ so.earlier) new → SoFar numbers text rest (number + 1) new
   over_entry name child new is fits are =
       let may = sym fits in
@@ -100,26 +100,26 @@ module _ (numbers text old line rest : List ℕ) (number : ℕ) (marks : List Bo
       }
 
   -- and one that may not
-  pub at_entry : (name : List ℕ) (child : ℕ) → entry_told line ≡ Some (name, child) → false ≡ may_lead_to numbers so.earlier child
+  pub at_entry : (name : List ℕ) (child : ℕ) → entry_of_line line ≡ Some (name, child) → false ≡ may_name_child numbers so.earlier child
       → child_fault_from 1 numbers [] (pieces_of text) ≡ Some number
   at_entry name child is unfit =
       let stops = sym unfit in
       so.told ∙ over number so.earlier ∙ rw (is, stops) refl
 
 module _ (numbers text old line rest : List ℕ) (number : ℕ) (marks : List Bool) (so : SoFar numbers text old number marks) (over : GoesOver numbers old line rest) (less : length rest < length old) (new : List Bool) where
-  pub went_over : (answer : Bool) → GoesOn numbers so.earlier (entry_told line) new answer → answer ≡ true → SoFar numbers text rest (number + 1) new
-  went_over answer on passes = go (entry_told line) refl on
+  pub went_over : (answer : Bool) → GoesOn numbers so.earlier (entry_of_line line) new answer → answer ≡ true → SoFar numbers text rest (number + 1) new
+  went_over answer on passes = go (entry_of_line line) refl on
     where
-      go : (o : Option (List ℕ × ℕ)) → entry_told line ≡ o → GoesOn numbers so.earlier o new answer → SoFar numbers text rest (number + 1) new
+      go : (o : Option (List ℕ × ℕ)) → entry_of_line line ≡ o → GoesOn numbers so.earlier o new answer → SoFar numbers text rest (number + 1) new
       go None is on = over_other numbers text old line rest number marks so over less new is on.1
       go (Some e) is on =
           over_entry numbers text old line rest number marks so over less e.0 e.1 new is (sym passes ∙ on.0)
           (subst (λ b. OnTrue b (AreMarked numbers (e.1 ∷ so.earlier) new)) passes on.1)
 
-  pub stopped : (answer : Bool) → GoesOn numbers so.earlier (entry_told line) new answer → answer ≡ false → child_fault_from 1 numbers [] (pieces_of text) ≡ Some number
-  stopped answer on fails = go (entry_told line) refl on
+  pub stopped : (answer : Bool) → GoesOn numbers so.earlier (entry_of_line line) new answer → answer ≡ false → child_fault_from 1 numbers [] (pieces_of text) ≡ Some number
+  stopped answer on fails = go (entry_of_line line) refl on
     where
-      go : (o : Option (List ℕ × ℕ)) → entry_told line ≡ o → GoesOn numbers so.earlier o new answer → child_fault_from 1 numbers [] (pieces_of text) ≡ Some number
+      go : (o : Option (List ℕ × ℕ)) → entry_of_line line ≡ o → GoesOn numbers so.earlier o new answer → child_fault_from 1 numbers [] (pieces_of text) ≡ Some number
       go None is on = absurd (cc (sym on.0 ∙ fails))
       go (Some e) is on = at_entry numbers text old line rest number marks so over less e.0 e.1 is (sym fails ∙ on.0)
 

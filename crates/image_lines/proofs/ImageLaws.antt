@@ -10,12 +10,12 @@ use Rattle.image_lines.specs.NodeRules.{IsNode}
 use Rattle.image_lines.specs.declared.place.Place.TheVariants.{AtHeader}
 use Rattle.image_lines.specs.Reading.{ImagesAreTexts, image_read, unless_fault}
 use Rattle.image_lines.specs.ChildFaults.{child_fault, child_fault_from}
-use Rattle.image_lines.specs.Told.{nodes_at}
+use Rattle.image_lines.specs.WordForms.{nodes_at}
 use Rattle.image_lines.specs.LineFaults.{line_fault, line_fault_from}
 use Rattle.text_words.proofs.PieceLemmas.{AreLines, pieces_of-ended, ended-from_pieces}
 use Rattle.image_lines.proofs.ReadingLaws.{lines_of, told_from}
 use Rattle.image_lines.proofs.AgainLaws.{image_again, nodes_told, are_lines}
-use Rattle.image_lines.specs.Lines.{node_told}
+use Rattle.image_lines.specs.Lines.{node_of_line}
 use Rattle.image_lines.proofs.ChildLaws.{children_found, children_again}
 
 no_fault : (o : Option ℕ) (read : Result Image ℕ) (image : Image) → unless_fault o read ≡ Ok image → (o ≡ None) × (read ≡ Ok image)
@@ -41,7 +41,7 @@ found text image h =
     )
 
 over_header : (ps : List (List ℕ)) → nodes_at (header ∷ ps) ≡ nodes_at ps
-unfolding nodes_at node_told
+unfolding nodes_at node_of_line
 over_header ps = refl
 
 again : (text : List ℕ) (image : Image) → IsImage image × (text ≡ image_text image) → image_read text ≡ Ok image

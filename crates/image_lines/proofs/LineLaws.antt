@@ -13,7 +13,7 @@ use Rattle.hex.specs.Hex.{encode_lower, lower_digits}
 use Rattle.hex.proofs.HexLemmas.{length-encode_with}
 use Rattle.text_words.specs.Digits.{lower_hex_bytes_of_length}
 use Rattle.text_words.specs.Numbers.{decimal_of}
-use Rattle.text_words.specs.Words.{behind, words_of}
+use Rattle.text_words.specs.Words.{rest_after, words_of}
 use Rattle.byte_words.specs.Bytes.{AreBytes, AreBytesOfLength}
 use Rattle.policy_ctx.specs.Context.{context_fault}
 use Rattle.policy_ctx.specs.declared.fault.CtxFault.{CtxFault}
@@ -23,8 +23,8 @@ use Rattle.image_lines.specs.declared.node_line.NodeLine.{NodeLine}
 use Rattle.image_lines.specs.ImageText.{context_text, kind_text, node_line, entry_line, block_line}
 use Rattle.image_lines.specs.NodeRules.{IsContext}
 use Rattle.image_lines.specs.StoredNames.{is_target}
-use Rattle.image_lines.specs.Words.{◌>>=◌, passing, number_told, stored_told, is_context, context_told, file_told, link_told, kind_told}
-use Rattle.image_lines.specs.Lines.{node_of, node_of_words, entry_of_words, node_told, entry_told, block_told}
+use Rattle.image_lines.specs.Words.{◌>>=◌, passing, number_of_word, stored_name_of_word, is_context, context_of_word, file_of_word, link_of_word, kind_of_word}
+use Rattle.image_lines.specs.Lines.{node_of, node_of_words, entry_of_words, node_of_line, entry_of_line, block_of_line}
 use Rattle.text_words.proofs.PieceLemmas.{free_of_both, is_free_of, split_at, split_none}
 use Rattle.text_words.proofs.WordLemmas.{behind_again, behind_found, chose, digits_again, digits_are_free, digits_found, number_is_free}
 use Rattle.image_lines.proofs.Telling.{went_on, was_mapped, passed, passes, stored_found, stored_again, number_again, number_found}
@@ -38,7 +38,7 @@ context_length context h = of (length context == 40) refl
     of true e = eqb-true (length context) 40 e
     of false e = absurd (cc (rw e at h))
 
-pub context_again : (context : Option (List ℕ)) → IsContext context → context_told (context_text context) ≡ Some context
+pub context_again : (context : Option (List ℕ)) → IsContext context → context_of_word (context_text context) ≡ Some context
 context_again None is = refl
 context_again (Some context) is =
     let len = context_length context is.0 in
@@ -51,7 +51,7 @@ no_fault : (o : Option CtxFault) → is_none o ≡ true → o ≡ None
 no_fault None h = refl
 no_fault (Some f) h = absurd (cc h)
 
-pub context_found : (word : List ℕ) (context : Option (List ℕ)) → context_told word ≡ Some context → (word ≡ context_text context) × IsContext context
+pub context_found : (word : List ℕ) (context : Option (List ℕ)) → context_of_word word ≡ Some context → (word ≡ context_text context) × IsContext context
 context_found word context h =
     elim (cases_Bool (bytes_eq word (codes "-"))) [
       | inl dash ↦ at_dash dash context (rw dash at h)
@@ -97,34 +97,34 @@ target_is_short : (under_policy : Bool) (target : List ℕ) → is_target under_
 target_is_short true target h = leb-true (length target) 255 (and_parts (nat_le 16 (length target)) (nat_le (length target) 255) h).1
 target_is_short false target h = leb-true (length target) 255 (and_parts (nat_le 1 (length target)) (nat_le (length target) 255) h).1
 
-pub kind_again : (under_policy : Bool) (kind : NodeKind) → IsKind under_policy kind → kind_told (kind_word kind) under_policy (last_word kind) ≡ Some kind
+pub kind_again : (under_policy : Bool) (kind : NodeKind) → IsKind under_policy kind → kind_of_word (kind_word kind) under_policy (last_word kind) ≡ Some kind
 kind_again under_policy Dir is = refl
 kind_again under_policy (File size) is =
-    let read = passes (λ n. nat_le n 1048576) (number_told (decimal_of size)) size (number_again size (omega (arith, is))) (le-leb size 1048576 is) in
+    let read = passes (λ n. nat_le n 1048576) (number_of_word (decimal_of size)) size (number_again size (omega (arith, is))) (le-leb size 1048576 is) in
     ap (option_map File) read
 kind_again under_policy (Link target) is =
-    let read = passes (is_target under_policy) (stored_told (encode_lower target)) target (stored_again target is.1 (target_is_short under_policy target is.0)) is.0 in
+    let read = passes (is_target under_policy) (stored_name_of_word (encode_lower target)) target (stored_again target is.1 (target_is_short under_policy target is.0)) is.0 in
     ap (option_map Link) read
 
 module _ (word : List ℕ) (under_policy : Bool) (kind : NodeKind) where
   abbrev Found : Option (List ℕ) → NodeKind → Type 0
   Found last kind = (word ≡ kind_word kind) × (last ≡ last_word kind) × IsKind under_policy kind
 
-  file_found : (last : List ℕ) → word ≡ codes "file" → file_told last ≡ Some kind → Found (Some last) kind
+  file_found : (last : List ℕ) → word ≡ codes "file" → file_of_word last ≡ Some kind → Found (Some last) kind
   file_found last is h =
-      let mapped = was_mapped File (number_told last >>= passing (λ n. nat_le n 1048576)) kind h in
-      let on = passed (λ n. nat_le n 1048576) (number_told last) mapped.0 mapped.1 in
+      let mapped = was_mapped File (number_of_word last >>= passing (λ n. nat_le n 1048576)) kind h in
+      let on = passed (λ n. nat_le n 1048576) (number_of_word last) mapped.0 mapped.1 in
       let number = number_found last mapped.0 on.0 in
       subst (Found (Some last)) mapped.2 (is, ap Some number.0, leb-true mapped.0 1048576 on.1)
 
-  link_found : (last : List ℕ) → word ≡ codes "link" → link_told under_policy last ≡ Some kind → Found (Some last) kind
+  link_found : (last : List ℕ) → word ≡ codes "link" → link_of_word under_policy last ≡ Some kind → Found (Some last) kind
   link_found last is h =
-      let mapped = was_mapped Link (stored_told last >>= passing (is_target under_policy)) kind h in
-      let on = passed (is_target under_policy) (stored_told last) mapped.0 mapped.1 in
+      let mapped = was_mapped Link (stored_name_of_word last >>= passing (is_target under_policy)) kind h in
+      let on = passed (is_target under_policy) (stored_name_of_word last) mapped.0 mapped.1 in
       let stored = stored_found last mapped.0 on.0 in
       subst (Found (Some last)) mapped.2 (is, ap Some stored.0, (on.1, stored.1))
 
-  pub kind_found : (last : Option (List ℕ)) → kind_told word under_policy last ≡ Some kind → Found last kind
+  pub kind_found : (last : Option (List ℕ)) → kind_of_word word under_policy last ≡ Some kind → Found last kind
   kind_found None h =
       let taken = chose (bytes_eq word (codes "dir")) (Some Dir) kind h in
       subst (Found None) (same_Some Dir kind taken.1) (same_text word (codes "dir") (sym taken.0), refl, tt)
@@ -132,7 +132,7 @@ module _ (word : List ℕ) (under_policy : Bool) (kind : NodeKind) where
       elim (cases_Bool (bytes_eq word (codes "file"))) [
         | inl file ↦ file_found last (same_text word (codes "file") (sym file)) (rw file at h)
         | inr other ↦
-            let taken = chose (bytes_eq word (codes "link")) (link_told under_policy last) kind (rw other at h) in
+            let taken = chose (bytes_eq word (codes "link")) (link_of_word under_policy last) kind (rw other at h) in
             link_found last (same_text word (codes "link") (sym taken.0)) taken.1
       ]
 
@@ -172,11 +172,11 @@ made n c k = let x : NodeLine = record { number = n; context = c; kind = k } in 
 node_found : (number kind context : List ℕ) (last : Option (List ℕ)) (node : NodeLine) → node_of number kind context last ≡ Some node
     → (number ∷ kind ∷ context ∷ with_last last ≡ node_words node) × IsNodeLine node
 node_found number kind context last node h =
-    let on = went_on (λ n. context_told context >>= λ c. kind_told kind (is_some c) last >>= λ k. made n c k) (number_told number) node h in
+    let on = went_on (λ n. context_of_word context >>= λ c. kind_of_word kind (is_some c) last >>= λ k. made n c k) (number_of_word number) node h in
     let n = number_found number on.0 on.1 in
-    let on_2 = went_on (λ c. kind_told kind (is_some c) last >>= λ k. made on.0 c k) (context_told context) node on.2 in
+    let on_2 = went_on (λ c. kind_of_word kind (is_some c) last >>= λ k. made on.0 c k) (context_of_word context) node on.2 in
     let c = context_found context on_2.0 on_2.1 in
-    let on_3 = went_on (λ k. made on.0 on_2.0 k) (kind_told kind (is_some on_2.0) last) node on_2.2 in
+    let on_3 = went_on (λ k. made on.0 on_2.0 k) (kind_of_word kind (is_some on_2.0) last) node on_2.2 in
     let k = kind_found kind (is_some on_2.0) on_3.0 last on_3.1 in
     let own : NodeLine = record { number = on.0; context = on_2.0; kind = on_3.0 } in
     let same : own ≡ node = same_Some own node on_3.2 in
@@ -226,17 +226,17 @@ cut_apart node is kind e = of kind e (subst (IsKind (is_some node.context)) e is
         ∙ ap (λ l. codes "link" ∷ l) (split_at 32 (context_text node.context) (encode_lower target) context
         ∙ ap (λ l. context_text node.context ∷ l) (split_none 32 (encode_lower target) (digits_are_free 32 target (omega arith) k.1)))))
 
-pub node_told_again : (node : NodeLine) → IsNodeLine node → node_told (node_line node) ≡ Some node
-unfolding node_told
+pub node_told_again : (node : NodeLine) → IsNodeLine node → node_of_line (node_line node) ≡ Some node
+unfolding node_of_line
 node_told_again node is =
     ap (λ o. o >>= λ rest. node_of_words (words_of rest)) (behind_again (codes "node ") (node_rest node))
     ∙ ap node_of_words (cut_apart node is node.kind refl)
     ∙ words_again node is node.kind refl
 
-pub node_told_found : (line : List ℕ) (node : NodeLine) → node_told line ≡ Some node → (line ≡ node_line node) × IsNodeLine node
-unfolding node_told
+pub node_told_found : (line : List ℕ) (node : NodeLine) → node_of_line line ≡ Some node → (line ≡ node_line node) × IsNodeLine node
+unfolding node_of_line
 node_told_found line node h =
-    let on = went_on (λ rest. node_of_words (words_of rest)) (behind (codes "node ") line) node h in
+    let on = went_on (λ rest. node_of_words (words_of rest)) (rest_after (codes "node ") line) node h in
     let words = words_found (words_of on.0) node on.2 in
     let rest : on.0 ≡ node_rest node = sym (join_with_byte-slice_split 32 on.0) ∙ ap (join_with_byte 32) words.0 ∙ joined node node.kind refl in
     (behind_found (codes "node ") line on.0 on.1 ∙ ap (λ l. codes "node " ++ l) rest, words.1)
@@ -278,9 +278,9 @@ made_entry name child = Some (name, child)
 
 entry_words_found : (words : List (List ℕ)) (e : List ℕ × ℕ) → entry_of_words words ≡ Some e → (words ≡ decimal_of e.1 ∷ encode_lower e.0 ∷ []) × IsEntryLine e
 entry_words_found (child ∷ name ∷ []) e h =
-    let on = went_on (λ n. stored_told name >>= λ s. made_entry s n) (number_told child) e h in
+    let on = went_on (λ n. stored_name_of_word name >>= λ s. made_entry s n) (number_of_word child) e h in
     let n = number_found child on.0 on.1 in
-    let on_2 = went_on (λ s. made_entry s on.0) (stored_told name) e on.2 in
+    let on_2 = went_on (λ s. made_entry s on.0) (stored_name_of_word name) e on.2 in
     let s = stored_found name on_2.0 on_2.1 in
     let same : (on_2.0, on.0) ≡ e = same_Some (on_2.0, on.0) e on_2.2 in
     subst (λ x. (child ∷ name ∷ [] ≡ decimal_of x.1 ∷ encode_lower x.0 ∷ []) × IsEntryLine x) same
@@ -289,8 +289,8 @@ entry_words_found [] e h = absurd (cc h)
 entry_words_found (child ∷ []) e h = absurd (cc h)
 entry_words_found (child ∷ name ∷ next ∷ more) e h = absurd (cc h)
 
-pub entry_told_again : (e : List ℕ × ℕ) → IsEntryLine e → entry_told (entry_line e) ≡ Some e
-unfolding entry_told
+pub entry_told_again : (e : List ℕ × ℕ) → IsEntryLine e → entry_of_line (entry_line e) ≡ Some e
+unfolding entry_of_line
 entry_told_again e is =
     let number = number_is_free 32 e.1 (omega arith) (omega (arith, is.child)) in
     let name = digits_are_free 32 e.0 (omega arith) is.bytes in
@@ -298,10 +298,10 @@ entry_told_again e is =
     ∙ ap entry_of_words (split_at 32 (decimal_of e.1) (encode_lower e.0) number ∙ ap (λ l. decimal_of e.1 ∷ l) (split_none 32 (encode_lower e.0) name))
     ∙ entry_words_again e is
 
-pub entry_told_found : (line : List ℕ) (e : List ℕ × ℕ) → entry_told line ≡ Some e → (line ≡ entry_line e) × IsEntryLine e
-unfolding entry_told
+pub entry_told_found : (line : List ℕ) (e : List ℕ × ℕ) → entry_of_line line ≡ Some e → (line ≡ entry_line e) × IsEntryLine e
+unfolding entry_of_line
 entry_told_found line e h =
-    let on = went_on (λ rest. entry_of_words (words_of rest)) (behind (codes "entry ") line) e h in
+    let on = went_on (λ rest. entry_of_words (words_of rest)) (rest_after (codes "entry ") line) e h in
     let words = entry_words_found (words_of on.0) e on.2 in
     let rest : on.0 ≡ decimal_of e.1 ++ 32 ∷ encode_lower e.0 = sym (join_with_byte-slice_split 32 on.0) ∙ ap (join_with_byte 32) words.0 in
     (behind_found (codes "entry ") line on.0 on.1 ∙ ap (λ l. codes "entry " ++ l) rest, words.1)
@@ -312,16 +312,16 @@ entry_line_is_free e is =
 
 -- ---- the line of a block
 
-pub block_told_again : (block : List ℕ) → AreBytesOfLength 4096 block → block_told (block_line block) ≡ Some block
-unfolding block_told
+pub block_told_again : (block : List ℕ) → AreBytesOfLength 4096 block → block_of_line (block_line block) ≡ Some block
+unfolding block_of_line
 block_told_again block is =
     ap (λ o. o >>= lower_hex_bytes_of_length 4096) (behind_again (codes "block ") (encode_lower block))
     ∙ digits_again 4096 block is.0 is.1
 
-pub block_told_found : (line block : List ℕ) → block_told line ≡ Some block → (line ≡ block_line block) × AreBytesOfLength 4096 block
-unfolding block_told
+pub block_told_found : (line block : List ℕ) → block_of_line line ≡ Some block → (line ≡ block_line block) × AreBytesOfLength 4096 block
+unfolding block_of_line
 block_told_found line block h =
-    let on = went_on (lower_hex_bytes_of_length 4096) (behind (codes "block ") line) block h in
+    let on = went_on (lower_hex_bytes_of_length 4096) (rest_after (codes "block ") line) block h in
     let digits = digits_found 4096 on.0 block on.2 in
     (behind_found (codes "block ") line on.0 on.1 ∙ ap (λ l. codes "block " ++ l) digits.0, (digits.1, digits.2))
 
@@ -330,22 +330,22 @@ block_line_is_free block is = digits_are_free 10 block (omega arith) is.1
 
 -- ---- no line is of two kinds
 
-pub node_is_no_entry : (node : NodeLine) → entry_told (node_line node) ≡ None
-unfolding entry_told
+pub node_is_no_entry : (node : NodeLine) → entry_of_line (node_line node) ≡ None
+unfolding entry_of_line
 node_is_no_entry node = refl
 
-pub node_is_no_block : (node : NodeLine) → block_told (node_line node) ≡ None
-unfolding block_told
+pub node_is_no_block : (node : NodeLine) → block_of_line (node_line node) ≡ None
+unfolding block_of_line
 node_is_no_block node = refl
 
-pub entry_is_no_node : (e : List ℕ × ℕ) → node_told (entry_line e) ≡ None
-unfolding node_told
+pub entry_is_no_node : (e : List ℕ × ℕ) → node_of_line (entry_line e) ≡ None
+unfolding node_of_line
 entry_is_no_node e = refl
 
-pub block_is_no_node : (block : List ℕ) → node_told (block_line block) ≡ None
-unfolding node_told
+pub block_is_no_node : (block : List ℕ) → node_of_line (block_line block) ≡ None
+unfolding node_of_line
 block_is_no_node block = refl
 
-pub block_is_no_entry : (block : List ℕ) → entry_told (block_line block) ≡ None
-unfolding entry_told
+pub block_is_no_entry : (block : List ℕ) → entry_of_line (block_line block) ≡ None
+unfolding entry_of_line
 block_is_no_entry block = refl

@@ -15,10 +15,10 @@ use Rattle.image_lines.specs.Image.{Image, ImageNode}
 use Rattle.image_lines.specs.ImageText.{image_text}
 use Rattle.image_lines.specs.Rules.{IsImage}
 use Rattle.image_lines.specs.NodeRules.{IsNode}
-use Rattle.image_lines.specs.Lines.{node_told, entry_told, block_told}
+use Rattle.image_lines.specs.Lines.{node_of_line, entry_of_line, block_of_line}
 use Rattle.image_lines.specs.Nodes.{IsRestOf}
 use Rattle.image_lines.specs.Reading.{image_read}
-use Rattle.image_lines.specs.Told.{node_at, entries_at, blocks_at}
+use Rattle.image_lines.specs.WordForms.{node_at, entries_at, blocks_at}
 use Rattle.image_lines.specs.Places.{node_of_place, no_node}
 use Rattle.image_lines.proofs.ImageLaws.{images_are_texts}
 use Rattle.image_lines.proofs.RoundLemmas.{dropped}
@@ -37,7 +37,7 @@ module _ (text : List ℕ) (places : List NodePlace) (read : image_read text ≡
       subst IsNode (get_or-map (node_of_place text) places i p (node_of_place text p) lt ∙ ap (node_of_place text) (sym is)) own
 
 -- a line that is no node's has no node
-pub no_node_line : (text line : List ℕ) (more : List (List ℕ)) (p : NodePlace) → pieces_of (drop p.at text) ≡ line ∷ more → node_told line ≡ None
+pub no_node_line : (text line : List ℕ) (more : List (List ℕ)) (p : NodePlace) → pieces_of (drop p.at text) ≡ line ∷ more → node_of_line line ≡ None
     → IsNode (node_of_place text p) → ⊥
 no_node_line text line more p cut none is =
     let same : node_of_place text p ≡ record no_node { number = p.number } = rw (cut, none) refl in
@@ -45,7 +45,7 @@ no_node_line text line more p cut none is =
     absurd (cc bad.body.0)
 
 pub begins : (text : List ℕ) (p : NodePlace) → IsNode (node_of_place text p) → p.at ≤ length text
-unfolding node_told
+unfolding node_of_line
 begins text p is = elim (cases_lt (length text) p.at) [
   | inl past ↦
       let none : drop p.at text ≡ [] = drop_all p.at text (omega arith) in
@@ -55,7 +55,7 @@ begins text p is = elim (cases_lt (length text) p.at) [
 
 -- nothing is read after the end of a text
 nothing_behind : (node : NodeLine) → node_at node [] ≡ node_at node ([] ∷ [])
-unfolding entries_at blocks_at entry_told block_told
+unfolding entries_at blocks_at entry_of_line block_of_line
 nothing_behind node = of node.number node.context node.kind
   where
     of : (number : ℕ) (context : Option (List ℕ)) (kind : NodeKind)
@@ -72,7 +72,7 @@ behind_is false rest node none = nothing_behind node ∙ ap (λ l. node_at node 
 -- the node at an index
 pub node_found : (text : List ℕ) (places : List NodePlace) (i : ℕ) (p : NodePlace) (line : NodeLine) (bytes rest : List ℕ) (ended : Bool)
     → i < length places → p ≡ get_or places i p → pieces_of (drop p.at text) ≡ bytes ∷ (if ended then pieces_of rest else [])
-    → (ended ≡ false → rest ≡ []) → node_told bytes ≡ Some line
+    → (ended ≡ false → rest ≡ []) → node_of_line bytes ≡ Some line
     → slice_get (map (node_of_place text) places) i ≡ Some (node_at (record line { number = p.number }) (pieces_of rest))
 node_found text places i p line bytes rest ended lt is cut none told =
     let long : length (map (node_of_place text) places) ≡ length places = length-map _ _ in
@@ -99,9 +99,9 @@ index_within text places image i is lt =
     omega (arith, long, same, lt)
 
 -- nothing follows a line that no line feed ends
-pub nothing_left : (ended : Bool) (text rest : List ℕ) → IsTrue ended ↔ (position_or_len is_line_feed text < length text) → rest ≡ after_first is_line_feed text
+pub end_of_record : (ended : Bool) (text rest : List ℕ) → IsTrue ended ↔ (position_or_len is_line_feed text < length text) → rest ≡ after_first is_line_feed text
     → ended ≡ false → rest ≡ []
-nothing_left ended text rest ends is not_ended = elim (cases_lt (position_or_len is_line_feed text) (length text)) [
+end_of_record ended text rest ends is not_ended = elim (cases_lt (position_or_len is_line_feed text) (length text)) [
   | inl found ↦ absurd (cc (ends.1 found, not_ended))
   | inr past ↦ is ∙ drop_all (position_or_len is_line_feed text + 1) text (omega arith)
 ]

@@ -13,9 +13,9 @@ use Rattle.image_lines.specs.Image.{Image, ImageNode}
 use Rattle.image_lines.specs.ImageText.{header, node_line, entry_line, block_line, line_of, body_lines, node_lines, image_text}
 use Rattle.image_lines.specs.Rules.{IsImage}
 use Rattle.image_lines.specs.NodeRules.{IsNode}
-use Rattle.image_lines.specs.Lines.{node_told}
+use Rattle.image_lines.specs.Lines.{node_of_line}
 use Rattle.image_lines.specs.Nodes.{text_after}
-use Rattle.image_lines.specs.Places.{place_told, places_from, places_in}
+use Rattle.image_lines.specs.Places.{place_of_line, places_from, places_in}
 use Rattle.image_lines.proofs.AgainLaws.{are_lines}
 use Rattle.image_lines.proofs.Bodies.{line_from_node}
 use Rattle.image_lines.proofs.LineLaws.{node_told_again, node_line_is_free, entry_is_no_node, block_is_no_node}
@@ -24,9 +24,9 @@ use Rattle.image_lines.proofs.ReadingLaws.{lines_of}
 -- ---- lines that are no node's
 
 abbrev NoNodes : List (List ℕ) → Type 0
-NoNodes lines = AllByRecursion (λ line. node_told line ≡ None) lines
+NoNodes lines = AllByRecursion (λ line. node_of_line line ≡ None) lines
 
-none_of : {A : Type 0} (line : A → List ℕ) → ((x : A) → node_told (line x) ≡ None) → (xs : List A) → NoNodes (map line xs)
+none_of : {A : Type 0} (line : A → List ℕ) → ((x : A) → node_of_line (line x) ≡ None) → (xs : List A) → NoNodes (map line xs)
 none_of line none [] = tt
 none_of line none (x ∷ xs) = (none x, none_of line none xs)
 
@@ -40,7 +40,7 @@ unfolding places_from
 over at [] more none = ap (λ n. places_from n more) (let e : at ≡ at + 0 = omega arith in e)
 over at (line ∷ lines) more none =
     let long = length-append line (10 ∷ ended lines) in
-    ap (λ o. place_told o at ++ places_from (at + length line + 1) (lines ++ more)) none.0
+    ap (λ o. place_of_line o at ++ places_from (at + length line + 1) (lines ++ more)) none.0
     ∙ over (at + length line + 1) lines more none.1
     ∙ ap (λ n. places_from n more) (let e : at + length line + 1 + length (ended lines) ≡ at + length (line ++ 10 ∷ ended lines) = omega (arith, long) in e)
 
@@ -55,7 +55,7 @@ unfolding places_from
 first_place at node image is =
     let own = node_line (line_of node) in
     let long = length-append own (10 ∷ ended (body_lines node.body)) in
-    ap (λ o. place_told o at ++ places_from (at + length own + 1) ((body_lines node.body ++ flat_map node_lines image) ++ [] ∷ [])) (node_told_again (line_of node) (line_from_node node is))
+    ap (λ o. place_of_line o at ++ places_from (at + length own + 1) ((body_lines node.body ++ flat_map node_lines image) ++ [] ∷ [])) (node_told_again (line_of node) (line_from_node node is))
     ∙ ap (λ (ls : List (List ℕ)). place_of node at ∷ places_from (at + length own + 1) ls) (append_assoc (body_lines node.body) (flat_map node_lines image) ([] ∷ []))
     ∙ ap (λ ps. place_of node at ∷ ps) (over (at + length own + 1) (body_lines node.body) (lines_of image) (no_node_in node.body))
     ∙ ap (λ n. place_of node at ∷ places_from n (lines_of image))
@@ -73,9 +73,9 @@ lines_at text at (node ∷ image) each here (suc i) p lt is =
     let long = length (ended (node_lines node)) in
     let parts : drop at text ≡ ended (node_lines node) ++ ended (flat_map node_lines image)
     = here ∙ ended-append (node_lines node) (flat_map node_lines image) in
-    let behind : drop (at + long) text ≡ ended (flat_map node_lines image)
+    let rest_after : drop (at + long) text ≡ ended (flat_map node_lines image)
     = sym (drop-drop long at text) ∙ ap (drop long) parts ∙ drop_at (ended (node_lines node)) (ended (flat_map node_lines image)) long refl in
-    lines_at text (at + long) image each.1 behind i p (omega arith) (is ∙ ap (λ ps. get_or ps (suc i) p) (first_place at node image each.0))
+    lines_at text (at + long) image each.1 rest_after i p (omega arith) (is ∙ ap (λ ps. get_or ps (suc i) p) (first_place at node image each.0))
 
 -- ---- what is after a node's own line
 
@@ -117,7 +117,7 @@ module _ (text : List ℕ) (image : Image) (is : IsImage image) (own : text ≡ 
       ap (drop (length header + 1)) lines ∙ drop_at (header ++ 10 ∷ []) (ended (flat_map node_lines image)) (length header + 1) refl
 
   over_header : places_from 0 (header ∷ lines_of image) ≡ places_from (length header + 1) (lines_of image)
-  unfolding places_from node_told
+  unfolding places_from node_of_line
   over_header = refl
 
   pub rest_at : (places : List NodePlace) (i : ℕ) (p : NodePlace) → places ≡ places_in text → i < length image → p ≡ get_or places i p

@@ -21,16 +21,16 @@ use Rattle.image_lines.specs.declared.node_line.NodeLine.{NodeLine}
 use Rattle.image_lines.specs.declared.place.Place.{Place}
 use Rattle.image_lines.specs.declared.place.Place.TheVariants.{AtHeader, AtRoot, InDir, Behind}
 use Rattle.image_lines.specs.Image.{Image}
-use Rattle.image_lines.specs.ImageText.{header, node_line, entry_line, block_line, told_kind, line_of, body_lines, node_lines}
+use Rattle.image_lines.specs.ImageText.{header, node_line, entry_line, block_line, kind_of_body, line_of, body_lines, node_lines}
 use Rattle.image_lines.specs.Rules.{HasGoodLines}
 use Rattle.image_lines.specs.NodeRules.{IsEntry, IsBody, IsNode}
 use Rattle.image_lines.specs.StoredNames.{is_entry_name}
-use Rattle.image_lines.specs.Lines.{node_told, entry_told, block_told}
+use Rattle.image_lines.specs.Lines.{node_of_line, entry_of_line, block_of_line}
 use Rattle.image_lines.specs.Words.{◌>>=◌, passing}
 use Rattle.image_lines.specs.LineFaults.{may_end, line_fault_from}
 use Rattle.image_lines.specs.NextPlaces.{next_entry, next_block, step}
-use Rattle.image_lines.specs.NodeLines.{place_behind, behind_node, is_dir, is_root, next_node}
-use Rattle.image_lines.specs.Told.{while_some, entries_at, blocks_at, body_at, node_at, with_node_at, nodes_at}
+use Rattle.image_lines.specs.NodeLines.{place_after, after_node, is_dir, is_root, next_node}
+use Rattle.image_lines.specs.WordForms.{while_some, entries_at, blocks_at, body_at, node_at, with_node_at, nodes_at}
 use Rattle.text_words.proofs.WordLemmas.{chose}
 use Rattle.image_lines.proofs.Telling.{was_mapped, passed}
 use Rattle.image_lines.proofs.LineLaws.{IsKind, node_told_found, entry_told_found, block_told_found}
@@ -57,7 +57,7 @@ Told (Behind number left) ps =
 
 -- ---- the body of a node
 
-body_kind : (kind : NodeKind) (ps : List (List ℕ)) → told_kind (body_at kind ps) ≡ kind
+body_kind : (kind : NodeKind) (ps : List (List ℕ)) → kind_of_body (body_at kind ps) ≡ kind
 body_kind Dir ps = refl
 body_kind (File size) ps = refl
 body_kind (Link target) ps = refl
@@ -66,7 +66,7 @@ no_block : (blocks : List (List ℕ)) (ps : List (List ℕ)) (rest : List (List 
 no_block [] ps rest none h = h
 no_block (b ∷ blocks) ps rest none h = absurd (omega arith)
 
-told_body : (kind : NodeKind) (number : ℕ) (under_policy : Bool) (ps : List (List ℕ)) → Told (place_behind number under_policy kind) ps → IsKind under_policy kind
+told_body : (kind : NodeKind) (number : ℕ) (under_policy : Bool) (ps : List (List ℕ)) → Told (place_after number under_policy kind) ps → IsKind under_policy kind
     → (ps ≡ body_lines (body_at kind ps) ++ lines_of (nodes_at ps)) × IsBody under_policy (body_at kind ps) × AreNodes number (nodes_at ps)
 told_body Dir number under_policy ps t k = (t.0, entries_from under_policy (entries_at ps) t.1, t.2)
 told_body (File size) number under_policy ps t k =
@@ -82,7 +82,7 @@ record NodeTold (line : List ℕ) (ps : List (List ℕ)) (node : NodeLine) : Typ
   more : AreNodes node.number (nodes_at ps)
   own : line ≡ node_line node
 
-told_node : (line : List ℕ) (ps : List (List ℕ)) (node : NodeLine) → node_told line ≡ Some node → Told (behind_node node) ps → NodeTold line ps node
+told_node : (line : List ℕ) (ps : List (List ℕ)) (node : NodeLine) → node_of_line line ≡ Some node → Told (after_node node) ps → NodeTold line ps node
 unfolding nodes_at
 told_node line ps node is t =
     let found = node_told_found line node is in
@@ -109,8 +109,8 @@ record NextTold (number : ℕ) (line : List ℕ) (ps : List (List ℕ)) : Type 0
 
 told_next : (number : ℕ) (line : List ℕ) (ps : List (List ℕ)) (p : Place) → next_node number line ≡ Some p → Told p ps → NextTold number line ps
 told_next number line ps p h t =
-    let mapped = was_mapped behind_node (node_told line >>= passing (λ node. nat_lt number node.number)) p h in
-    let on = passed (λ node. nat_lt number node.number) (node_told line) mapped.0 mapped.1 in
+    let mapped = was_mapped after_node (node_of_line line >>= passing (λ node. nat_lt number node.number)) p h in
+    let on = passed (λ node. nat_lt number node.number) (node_of_line line) mapped.0 mapped.1 in
     let told = told_node line ps mapped.0 on.0 (subst (λ q. Told q ps) (sym mapped.2) t) in
     let above : nat_cmp number mapped.0.number ≡ Less = rw on.1 refl in
     record {
@@ -124,26 +124,26 @@ told_next number line ps p h t =
 
 no_entries : (node : NodeLine) (line : List ℕ) (ps : List (List ℕ)) → line ≡ node_line node → entries_at (line ∷ ps) ≡ []
 unfolding entries_at
-no_entries node line ps own = ap (λ o. while_some o (entries_at ps)) (ap entry_told own ∙ node_is_no_entry node)
+no_entries node line ps own = ap (λ o. while_some o (entries_at ps)) (ap entry_of_line own ∙ node_is_no_entry node)
 
 no_blocks : (node : NodeLine) (line : List ℕ) (ps : List (List ℕ)) → line ≡ node_line node → blocks_at (line ∷ ps) ≡ []
 unfolding blocks_at
-no_blocks node line ps own = ap (λ o. while_some o (blocks_at ps)) (ap block_told own ∙ node_is_no_block node)
+no_blocks node line ps own = ap (λ o. while_some o (blocks_at ps)) (ap block_of_line own ∙ node_is_no_block node)
 
-passes_over : (line : List ℕ) (ps : List (List ℕ)) → node_told line ≡ None → nodes_at (line ∷ ps) ≡ nodes_at ps
+passes_over : (line : List ℕ) (ps : List (List ℕ)) → node_of_line line ≡ None → nodes_at (line ∷ ps) ≡ nodes_at ps
 unfolding nodes_at
 passes_over line ps none = ap (λ o. with_node_at o ps (nodes_at ps)) none
 
-one_entry : (line : List ℕ) (ps : List (List ℕ)) (e : List ℕ × ℕ) → entry_told line ≡ Some e → entries_at (line ∷ ps) ≡ e ∷ entries_at ps
+one_entry : (line : List ℕ) (ps : List (List ℕ)) (e : List ℕ × ℕ) → entry_of_line line ≡ Some e → entries_at (line ∷ ps) ≡ e ∷ entries_at ps
 unfolding entries_at
 one_entry line ps e is = ap (λ o. while_some o (entries_at ps)) is
 
-one_block : (line : List ℕ) (ps : List (List ℕ)) (b : List ℕ) → block_told line ≡ Some b → blocks_at (line ∷ ps) ≡ b ∷ blocks_at ps
+one_block : (line : List ℕ) (ps : List (List ℕ)) (b : List ℕ) → block_of_line line ≡ Some b → blocks_at (line ∷ ps) ≡ b ∷ blocks_at ps
 unfolding blocks_at
 one_block line ps b is = ap (λ o. while_some o (blocks_at ps)) is
 
-header_is_no_node : node_told header ≡ None
-unfolding node_told
+header_is_no_node : node_of_line header ≡ None
+unfolding node_of_line
 header_is_no_node = refl
 
 at_header : (line : List ℕ) (ps : List (List ℕ)) (p : Place) → step AtHeader line ≡ Some p → Told p ps → Told AtHeader (line ∷ ps)
@@ -151,7 +151,7 @@ at_header line ps p h t =
     let taken = chose (bytes_eq line header) (Some AtRoot) p h in
     let is : line ≡ header = same_text line header (sym taken.0) in
     let root : Told AtRoot ps = subst (λ q. Told q ps) (sym (same_Some AtRoot p taken.1)) t in
-    let over : nodes_at (line ∷ ps) ≡ nodes_at ps = passes_over line ps (ap node_told is ∙ header_is_no_node) in
+    let over : nodes_at (line ∷ ps) ≡ nodes_at ps = passes_over line ps (ap node_of_line is ∙ header_is_no_node) in
     (ap (λ l. l ∷ ps) is ∙ ap (λ l. header ∷ l) (root.0 ∙ ap lines_of (sym over)), subst HasGoodLines (sym over) root.1)
 
 dir_kind : (kind : NodeKind) (ps : List (List ℕ)) → is_dir kind ≡ true → IsDir (body_at kind ps)
@@ -165,8 +165,8 @@ no_context (Some c) h = absurd (cc h)
 
 at_root : (line : List ℕ) (ps : List (List ℕ)) (p : Place) → step AtRoot line ≡ Some p → Told p ps → Told AtRoot (line ∷ ps)
 at_root line ps p h t =
-    let mapped = was_mapped behind_node (node_told line >>= passing is_root) p h in
-    let on = passed is_root (node_told line) mapped.0 mapped.1 in
+    let mapped = was_mapped after_node (node_of_line line >>= passing is_root) p h in
+    let on = passed is_root (node_of_line line) mapped.0 mapped.1 in
     let told = told_node line ps mapped.0 on.0 (subst (λ q. Told q ps) (sym mapped.2) t) in
     let root = and_parts (mapped.0.number == 0) (is_none mapped.0.context && is_dir mapped.0.kind) on.1 in
     let rest = and_parts (is_none mapped.0.context) (is_dir mapped.0.kind) root.1 in
@@ -184,13 +184,13 @@ module _ (number : ℕ) (under_policy : Bool) (last line : List ℕ) (ps : List 
       let none = no_entries next.node line ps next.own in
       (next.lines ∙ ap (λ es. map entry_line es ++ lines_of (nodes_at (line ∷ ps))) (sym none), subst (AreEntries under_policy last) (sym none) (record { each = tt; rising = tt }), next.are)
 
-  in_dir_entry : (e : List ℕ × ℕ) (p : Place) → entry_told line ≡ Some e → next_entry number under_policy last e.0 ≡ Some p → Told p ps → Told (InDir number under_policy last) (line ∷ ps)
+  in_dir_entry : (e : List ℕ × ℕ) (p : Place) → entry_of_line line ≡ Some e → next_entry number under_policy last e.0 ≡ Some p → Told p ps → Told (InDir number under_policy last) (line ∷ ps)
   in_dir_entry e p is h t =
       let taken = chose (is_entry_name under_policy e.0 && is_lt (slice_cmp nat_cmp last e.0)) (Some (InDir number under_policy e.0)) p h in
       let parts = and_parts (is_entry_name under_policy e.0) (is_lt (slice_cmp nat_cmp last e.0)) taken.0 in
       let told : Told (InDir number under_policy e.0) ps = subst (λ q. Told q ps) (sym (same_Some (InDir number under_policy e.0) p taken.1)) t in
       let found = entry_told_found line e is in
-      let over : nodes_at (line ∷ ps) ≡ nodes_at ps = passes_over line ps (ap node_told found.0 ∙ entry_is_no_node e) in
+      let over : nodes_at (line ∷ ps) ≡ nodes_at ps = passes_over line ps (ap node_of_line found.0 ∙ entry_is_no_node e) in
       let one = one_entry line ps e is in
       let entry : IsEntry under_policy e = record { name = parts.0; bytes = found.1.bytes; child = found.1.child } in
       let are : AreEntries under_policy last (e ∷ entries_at ps) = record { each = (entry, told.1.each); rising = (less _ parts.1, told.1.rising) } in (
@@ -199,7 +199,7 @@ module _ (number : ℕ) (under_policy : Bool) (last line : List ℕ) (ps : List 
         subst (AreNodes number) (sym over) told.2,
       )
 
-  in_dir : (o : Option (List ℕ × ℕ)) (p : Place) → entry_told line ≡ o → step (InDir number under_policy last) line ≡ Some p → Told p ps → Told (InDir number under_policy last) (line ∷ ps)
+  in_dir : (o : Option (List ℕ × ℕ)) (p : Place) → entry_of_line line ≡ o → step (InDir number under_policy last) line ≡ Some p → Told p ps → Told (InDir number under_policy last) (line ∷ ps)
   in_dir None p is h t = in_dir_node (told_next number line ps p (rw is at h) t)
   in_dir (Some e) p is h t = in_dir_entry e p is (rw is at h) t
 
@@ -211,10 +211,10 @@ module _ (number left : ℕ) (line : List ℕ) (ps : List (List ℕ)) where
 
   in_file : (p : Place) → (left == 0) ≡ false → next_block number left line ≡ Some p → Told p ps → Told (Behind number left) (line ∷ ps)
   in_file p some h t =
-      let mapped = was_mapped (λ block. Behind number (left - 1)) (block_told line) p h in
+      let mapped = was_mapped (λ block. Behind number (left - 1)) (block_of_line line) p h in
       let told : Told (Behind number (left - 1)) ps = subst (λ q. Told q ps) (sym mapped.2) t in
       let found = block_told_found line mapped.0 mapped.1 in
-      let over : nodes_at (line ∷ ps) ≡ nodes_at ps = passes_over line ps (ap node_told found.0 ∙ block_is_no_node mapped.0) in
+      let over : nodes_at (line ∷ ps) ≡ nodes_at ps = passes_over line ps (ap node_of_line found.0 ∙ block_is_no_node mapped.0) in
       let one = one_block line ps mapped.0 mapped.1 in
       let long : length (mapped.0 ∷ blocks_at ps) ≡ left = counted left (length (blocks_at ps)) some told.1.long in
       let are : AreBlocks left (mapped.0 ∷ blocks_at ps) = record { long = long; each = (found.1, told.1.each) } in (
@@ -226,8 +226,8 @@ module _ (number left : ℕ) (line : List ℕ) (ps : List (List ℕ)) where
       counted : (left count : ℕ) → (left == 0) ≡ false → count ≡ left - 1 → suc count ≡ left
       counted left count some e = grind (arith, nat_tests)
 
-  behind : (p : Place) → step (Behind number left) line ≡ Some p → Told p ps → Told (Behind number left) (line ∷ ps)
-  behind p h t =
+  rest_after : (p : Place) → step (Behind number left) line ≡ Some p → Told p ps → Told (Behind number left) (line ∷ ps)
+  rest_after p h t =
       elim (cases_Bool (left == 0)) [
         | inl none ↦ behind_file (told_next number line ps p (rw none at h) t) (eqb-true left 0 none)
         | inr some ↦ in_file p some (rw some at h) t
@@ -236,13 +236,13 @@ module _ (number left : ℕ) (line : List ℕ) (ps : List (List ℕ)) where
 told_step : (place : Place) (line : List ℕ) (ps : List (List ℕ)) (p : Place) → step place line ≡ Some p → Told p ps → Told place (line ∷ ps)
 told_step AtHeader line ps p h t = at_header line ps p h t
 told_step AtRoot line ps p h t = at_root line ps p h t
-told_step (InDir number under_policy last) line ps p h t = in_dir number under_policy last line ps (entry_told line) p refl h t
-told_step (Behind number left) line ps p h t = behind number left line ps p h t
+told_step (InDir number under_policy last) line ps p h t = in_dir number under_policy last line ps (entry_of_line line) p refl h t
+told_step (Behind number left) line ps p h t = rest_after number left line ps p h t
 
 -- ---- the end of a text
 
 told_end : (place : Place) → may_end place ≡ true → Told place ([] ∷ [])
-unfolding entries_at blocks_at nodes_at node_told entry_told block_told
+unfolding entries_at blocks_at nodes_at node_of_line entry_of_line block_of_line
 told_end AtHeader h = absurd (cc h)
 told_end AtRoot h = absurd (cc h)
 told_end (InDir number under_policy last) h = (refl, record { each = tt; rising = tt }, AreNodes-none number)

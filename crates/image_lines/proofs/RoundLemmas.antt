@@ -7,11 +7,11 @@ use Rattle.text_words.specs.Lines.{pieces_of}
 use Rattle.image_lines.specs.declared.node_line.NodeLine.{NodeLine}
 use Rattle.image_lines.specs.declared.place.Place.{Place}
 use Rattle.image_lines.specs.declared.round_of_lines.NodePlace.{NodePlace}
-use Rattle.image_lines.specs.Lines.{node_told}
-use Rattle.image_lines.specs.Told.{nodes_at, node_at, with_node_at}
+use Rattle.image_lines.specs.Lines.{node_of_line}
+use Rattle.image_lines.specs.WordForms.{nodes_at, node_at, with_node_at}
 use Rattle.image_lines.specs.LineFaults.{may_end, or_fault, line_fault_from}
 use Rattle.image_lines.specs.NextPlaces.{step}
-use Rattle.image_lines.specs.Places.{node_of_place, place_told, places_from}
+use Rattle.image_lines.specs.Places.{node_of_place, place_of_line, places_from}
 use Rattle.text_words.proofs.PieceLemmas.{first_piece}
 
 -- ---- the line at fault
@@ -45,20 +45,20 @@ at_end k place text none = ap (λ l. line_fault_from k place (pieces_of l)) (nil
 -- ---- the nodes
 
 -- the node at the index of a node's line is the one that the line describes
-here : (text line rest : List ℕ) (at : ℕ) (node : NodeLine) → node_told line ≡ Some node → pieces_of (drop at text) ≡ line ∷ pieces_of rest
+here : (text line rest : List ℕ) (at : ℕ) (node : NodeLine) → node_of_line line ≡ Some node → pieces_of (drop at text) ≡ line ∷ pieces_of rest
     → node_of_place text (record { number = node.number; at = at }) ≡ node_at node (pieces_of rest)
 here text line rest at node is cut = rw (cut, is) refl
 
-pub one_more : (text line rest : List ℕ) (at : ℕ) (old new : List NodePlace) → new ≡ old ++ place_told (node_told line) at → pieces_of (drop at text) ≡ line ∷ pieces_of rest
+pub one_more : (text line rest : List ℕ) (at : ℕ) (old new : List NodePlace) → new ≡ old ++ place_of_line (node_of_line line) at → pieces_of (drop at text) ≡ line ∷ pieces_of rest
     → map (node_of_place text) new ++ nodes_at (pieces_of rest) ≡ map (node_of_place text) old ++ nodes_at (pieces_of (drop at text))
 unfolding nodes_at
 one_more text line rest at old new pushed cut =
     ap (λ l. map (node_of_place text) l ++ nodes_at (pieces_of rest)) pushed
-    ∙ of (node_told line) refl
+    ∙ of (node_of_line line) refl
     ∙ ap (λ ps. map (node_of_place text) old ++ nodes_at ps) (sym cut)
   where
-    of : (o : Option NodeLine) → node_told line ≡ o
-        → map (node_of_place text) (old ++ place_told (node_told line) at) ++ nodes_at (pieces_of rest) ≡ map (node_of_place text) old ++ with_node_at (node_told line) (pieces_of rest) (nodes_at (pieces_of rest))
+    of : (o : Option NodeLine) → node_of_line line ≡ o
+        → map (node_of_place text) (old ++ place_of_line (node_of_line line) at) ++ nodes_at (pieces_of rest) ≡ map (node_of_place text) old ++ with_node_at (node_of_line line) (pieces_of rest) (nodes_at (pieces_of rest))
     of None e = rw e (ap (λ l. map (node_of_place text) l ++ nodes_at (pieces_of rest)) (append-nil old))
     of (Some node) e =
         let own : NodePlace = record { number = node.number; at = at } in
@@ -67,7 +67,7 @@ one_more text line rest at old new pushed cut =
         ∙ ap (λ n. map (node_of_place text) old ++ n ∷ nodes_at (pieces_of rest)) (here text line rest at node e cut))
 
 last : nodes_at ([] ∷ []) ≡ []
-unfolding nodes_at node_told
+unfolding nodes_at node_of_line
 last = refl
 
 pub none_left : (text : List ℕ) → (length text == 0) ≡ true → nodes_at (pieces_of text) ≡ []
@@ -75,17 +75,17 @@ none_left text none = ap (λ l. nodes_at (pieces_of l)) (nil_from_length text (e
 
 -- ---- the places
 
-pub placed_more : (line rest : List ℕ) (at behind : ℕ) (old new : List NodePlace) (pieces : List (List ℕ)) → new ≡ old ++ place_told (node_told line) at
-    → pieces ≡ line ∷ pieces_of rest → behind ≡ at + length line + 1
-    → new ++ places_from behind (pieces_of rest) ≡ old ++ places_from at pieces
+pub placed_more : (line rest : List ℕ) (at rest_after : ℕ) (old new : List NodePlace) (pieces : List (List ℕ)) → new ≡ old ++ place_of_line (node_of_line line) at
+    → pieces ≡ line ∷ pieces_of rest → rest_after ≡ at + length line + 1
+    → new ++ places_from rest_after (pieces_of rest) ≡ old ++ places_from at pieces
 unfolding places_from
-placed_more line rest at behind old new pieces pushed cut on =
+placed_more line rest at rest_after old new pieces pushed cut on =
     (λ i. pushed i ++ places_from (on i) (pieces_of rest))
-    ∙ append_assoc old (place_told (node_told line) at) (places_from (at + length line + 1) (pieces_of rest))
+    ∙ append_assoc old (place_of_line (node_of_line line) at) (places_from (at + length line + 1) (pieces_of rest))
     ∙ ap (λ ps. old ++ places_from at ps) (sym cut)
 
 no_place : (at : ℕ) → places_from at ([] ∷ []) ≡ []
-unfolding places_from node_told
+unfolding places_from node_of_line
 no_place at = refl
 
 pub placed_none : (text : List ℕ) (at : ℕ) → (length text == 0) ≡ true → places_from at (pieces_of text) ≡ []

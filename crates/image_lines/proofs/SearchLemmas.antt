@@ -12,7 +12,7 @@ use Rattle.std.proofs.lemmas.List.Folds.{list_any_none, list_any_at}
 use Rattle.std.proofs.lemmas.List.Sorted.{IsNonDecreasingBy-from_default}
 use Rattle.std.proofs.lemmas.Map.Keys.{below_from_sorted}
 use Rattle.image_lines.specs.declared.round_of_lines.NodePlace.{NodePlace}
-use Rattle.image_lines.specs.ChildFaults.{may_lead_to}
+use Rattle.image_lines.specs.ChildFaults.{may_name_child}
 use Rattle.image_lines.specs.Places.{numbers_at, DoRise}
 use Rattle.image_lines.specs.Marks.{IsIndexOf, AreMarked}
 
@@ -63,15 +63,15 @@ found_among : (numbers : List ℕ) (number index : ℕ) → index < length numbe
 found_among numbers number index lt is = list_any_at (nat_eq number) numbers index 0 lt (eq-eqb number (get_or numbers index 0) (sym is))
 
 -- the answer if there is no such node, or it was marked, or neither
-pub leads_nowhere : (numbers earlier : List ℕ) (child : ℕ) → IsIndexOf numbers child None → false ≡ may_lead_to numbers earlier child
+pub leads_nowhere : (numbers earlier : List ℕ) (child : ℕ) → IsIndexOf numbers child None → false ≡ may_name_child numbers earlier child
 leads_nowhere numbers earlier child none = of (child == 0) refl
   where
-    of : (b : Bool) → (child == 0) ≡ b → false ≡ may_lead_to numbers earlier child
+    of : (b : Bool) → (child == 0) ≡ b → false ≡ may_name_child numbers earlier child
     of true e = rw e refl
     of false e = rw (e, none) refl
 
 pub leads_twice : (numbers earlier : List ℕ) (marks : List Bool) (child index : ℕ) → AreMarked numbers earlier marks → IsIndexOf numbers child (Some index)
-    → get_or marks index false ≡ true → false ≡ may_lead_to numbers earlier child
+    → get_or marks index false ≡ true → false ≡ may_name_child numbers earlier child
 leads_twice numbers earlier marks child index are is marked = of (child == 0) refl
   where
     there : list_any (nat_eq child) numbers ≡ true
@@ -80,12 +80,12 @@ leads_twice numbers earlier marks child index are is marked = of (child == 0) re
     earlier_too : list_any (nat_eq child) earlier ≡ true
     earlier_too = subst (λ n. list_any (nat_eq n) earlier ≡ true) is.1 (sym (are.each index is.0) ∙ marked)
 
-    of : (b : Bool) → (child == 0) ≡ b → false ≡ may_lead_to numbers earlier child
+    of : (b : Bool) → (child == 0) ≡ b → false ≡ may_name_child numbers earlier child
     of true e = rw e refl
     of false e = rw (e, there, earlier_too) refl
 
 pub leads_once : (numbers earlier : List ℕ) (marks : List Bool) (child index : ℕ) → AreMarked numbers earlier marks → IsIndexOf numbers child (Some index)
-    → (child == 0) ≡ false → get_or marks index false ≡ false → true ≡ may_lead_to numbers earlier child
+    → (child == 0) ≡ false → get_or marks index false ≡ false → true ≡ may_name_child numbers earlier child
 leads_once numbers earlier marks child index are is some unmarked =
     let there = found_among numbers child index is.0 is.1 in
     let new : list_any (nat_eq child) earlier ≡ false = subst (λ n. list_any (nat_eq n) earlier ≡ false) is.1 (sym (are.each index is.0) ∙ unmarked) in

@@ -15,7 +15,7 @@ use Rattle.text_words.proofs.DigitLemmas.{was_ok}
 use Rattle.text_words.proofs.NumberLemmas.{number_below-decimal_of, decimal_of-number_below}
 use Rattle.text_words.proofs.WordLemmas.{chose, digits_are_lower, digits_found}
 use Rattle.byte_words.specs.Bytes.{AreBytes}
-use Rattle.image_lines.specs.Words.{◌>>=◌, passing, number_told, stored_told}
+use Rattle.image_lines.specs.Words.{◌>>=◌, passing, number_of_word, stored_name_of_word}
 
 -- ---- choices
 
@@ -41,7 +41,7 @@ passes test o x is fits = rw (is, fits) refl
 
 -- ---- stored bytes
 
-pub stored_found : (word bytes : List ℕ) → stored_told word ≡ Some bytes → (word ≡ encode_lower bytes) × AreBytes bytes × (length bytes ≤ 255)
+pub stored_found : (word bytes : List ℕ) → stored_name_of_word word ≡ Some bytes → (word ≡ encode_lower bytes) × AreBytes bytes × (length bytes ≤ 255)
 stored_found word bytes h =
     let taken = chose (list_all is_lower_hex_digit word && nat_le (length word) 510) (hex_bytes word) bytes h in
     let parts = and_parts (list_all is_lower_hex_digit word) (nat_le (length word) 510) taken.0 in
@@ -51,7 +51,7 @@ stored_found word bytes h =
     let short : length word ≤ 510 = leb-true (length word) 510 parts.1 in
     ((digits_found (length bytes) word bytes sized).0, ok.3, omega (arith, ok.2))
 
-pub stored_again : (bytes : List ℕ) → AreBytes bytes → length bytes ≤ 255 → stored_told (encode_lower bytes) ≡ Some bytes
+pub stored_again : (bytes : List ℕ) → AreBytes bytes → length bytes ≤ 255 → stored_name_of_word (encode_lower bytes) ≡ Some bytes
 stored_again bytes are short =
     let size : length (encode_lower bytes) ≡ 2 * length bytes = length-encode_with lower_digits bytes in
     let fits : nat_le (length (encode_lower bytes)) 510 ≡ true = le-leb (length (encode_lower bytes)) 510 (omega (arith, size)) in
@@ -59,10 +59,10 @@ stored_again bytes are short =
 
 -- ---- numbers
 
-pub number_again : (n : ℕ) → n < 2 ^ 32 → number_told (decimal_of n) ≡ Some n
+pub number_again : (n : ℕ) → n < 2 ^ 32 → number_of_word (decimal_of n) ≡ Some n
 number_again n small = number_below-decimal_of (2 ^ 32) n small (omega arith)
 
-pub number_found : (word : List ℕ) (n : ℕ) → number_told word ≡ Some n → (word ≡ decimal_of n) × (n < 2 ^ 32)
+pub number_found : (word : List ℕ) (n : ℕ) → number_of_word word ≡ Some n → (word ≡ decimal_of n) × (n < 2 ^ 32)
 number_found word n h =
     let taken = chose (is_decimal word && nat_lt (digits_value 10 word) (2 ^ 32)) (Some (digits_value 10 word)) n h in
     let parts = and_parts (is_decimal word) (nat_lt (digits_value 10 word) (2 ^ 32)) taken.0 in

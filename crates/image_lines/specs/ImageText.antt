@@ -33,13 +33,13 @@ abbrev pub block_line : List ℕ → List ℕ
 block_line block = codes "block " ++ encode_lower block
 
 -- what the line of a node contains of its body
-abbrev pub told_kind : Body → NodeKind
-told_kind (body.Dir entries) = Dir
-told_kind (body.File blocks size) = File size
-told_kind (body.Link target) = Link target
+abbrev pub kind_of_body : Body → NodeKind
+kind_of_body (body.Dir entries) = Dir
+kind_of_body (body.File blocks size) = File size
+kind_of_body (body.Link target) = Link target
 
 abbrev pub line_of : ImageNode → NodeLine
-line_of node = record { number = node.number; context = node.context; kind = told_kind node.body }
+line_of node = record { number = node.number; context = node.context; kind = kind_of_body node.body }
 
 -- the lines of a directory's entries, or of a file's blocks
 abbrev pub body_lines : Body → List (List ℕ)

@@ -8,7 +8,7 @@ pub mod Lines
 pub mod NodeLines
 pub mod NextPlaces
 pub mod LineFaults
-pub mod Told
+pub mod WordForms
 pub mod ChildFaults
 pub mod Reading
 pub mod Marks

@@ -3,7 +3,7 @@ use Rattle.std.specs.Prelude.{ℕ, ◌≡◌, ◌<◌, Bool, true, false, nat_eq
 use Rattle.std.specs.Prelude.{slice_index, slice_index_or, Option, None, Some}
 use Rattle.std.specs.Bool.{OnTrue}
 use Rattle.std.specs.List.{list_any}
-use Rattle.image_lines.specs.ChildFaults.{may_lead_to}
+use Rattle.image_lines.specs.ChildFaults.{may_name_child}
 
 -- the index of a number, or none if it isn't among them
 abbrev pub IsIndexOf : List ℕ → ℕ → Option ℕ → Type 0
@@ -21,5 +21,5 @@ pub record AreMarked (numbers earlier : List ℕ) (marks : List Bool) : Type 0 w
 abbrev pub GoesOn : List ℕ → List ℕ → Option (List ℕ × ℕ) → List Bool → Bool → Type 0
 GoesOn numbers earlier None marks answer = (answer ≡ true) × AreMarked numbers earlier marks
 GoesOn numbers earlier (Some entry) marks answer =
-    (answer ≡ may_lead_to numbers earlier entry.1)
+    (answer ≡ may_name_child numbers earlier entry.1)
     × OnTrue answer (AreMarked numbers (entry.1 ∷ earlier) marks)

@@ -8,9 +8,9 @@ use Rattle.image_lines.specs.declared.place.Place.{Place}
 use Rattle.image_lines.specs.declared.place.Place.TheVariants.{AtHeader, AtRoot, InDir, Behind}
 use Rattle.image_lines.specs.ImageText.{header}
 use Rattle.image_lines.specs.StoredNames.{is_entry_name}
-use Rattle.image_lines.specs.Lines.{node_told, entry_told, block_told}
+use Rattle.image_lines.specs.Lines.{node_of_line, entry_of_line, block_of_line}
 use Rattle.image_lines.specs.Words.{◌>>=◌, passing}
-use Rattle.image_lines.specs.NodeLines.{behind_node, is_root, next_node}
+use Rattle.image_lines.specs.NodeLines.{after_node, is_root, next_node}
 
 -- an entry whose name is in range and greater than the last one
 abbrev pub next_entry : ℕ → Bool → List ℕ → List ℕ → Option Place
@@ -25,12 +25,12 @@ in_dir number under_policy last (Some entry) line = next_entry number under_poli
 
 -- after a file with blocks still to come: one of them
 abbrev pub next_block : ℕ → ℕ → List ℕ → Option Place
-next_block number left line = option_map (λ block. Behind number (left - 1)) (block_told line)
+next_block number left line = option_map (λ block. Behind number (left - 1)) (block_of_line line)
 
 -- the place after the line, if the line is allowed at this one
 abbrev pub step : Place → List ℕ → Option Place
 step AtHeader line = if bytes_eq line header then Some AtRoot else None
-step AtRoot line = option_map behind_node (node_told line >>= passing is_root)
-step (InDir number under_policy last) line = in_dir number under_policy last (entry_told line) line
+step AtRoot line = option_map after_node (node_of_line line >>= passing is_root)
+step (InDir number under_policy last) line = in_dir number under_policy last (entry_of_line line) line
 step (Behind number left) line =
     if left == 0 then next_node number line else next_block number left line

@@ -7,18 +7,18 @@ use Rattle.image_lines.specs.declared.node_line.NodeLine.{NodeLine}
 use Rattle.image_lines.specs.declared.place.Place.{Place}
 use Rattle.image_lines.specs.declared.place.Place.TheVariants.{InDir, Behind}
 use Rattle.image_lines.specs.NodeRules.{blocks_for}
-use Rattle.image_lines.specs.Lines.{node_told}
+use Rattle.image_lines.specs.Lines.{node_of_line}
 use Rattle.image_lines.specs.Words.{◌>>=◌, passing}
 
 -- the place after the line of a node: in a directory with no entry yet, after a file with its blocks still
 -- to come, or after a link
-abbrev pub place_behind : ℕ → Bool → NodeKind → Place
-place_behind number under_policy Dir = InDir number under_policy []
-place_behind number under_policy (File size) = Behind number (blocks_for size)
-place_behind number under_policy (Link target) = Behind number 0
+abbrev pub place_after : ℕ → Bool → NodeKind → Place
+place_after number under_policy Dir = InDir number under_policy []
+place_after number under_policy (File size) = Behind number (blocks_for size)
+place_after number under_policy (Link target) = Behind number 0
 
-abbrev pub behind_node : NodeLine → Place
-behind_node node = place_behind node.number (is_some node.context) node.kind
+abbrev pub after_node : NodeLine → Place
+after_node node = place_after node.number (is_some node.context) node.kind
 
 abbrev pub is_dir : NodeKind → Bool
 is_dir Dir = true
@@ -32,4 +32,4 @@ is_root node = (node.number == 0) && (is_none node.context && is_dir node.kind)
 -- the line of a node of a greater number
 abbrev pub next_node : ℕ → List ℕ → Option Place
 next_node number line =
-    option_map behind_node (node_told line >>= passing (λ node. nat_lt number node.number))
+    option_map after_node (node_of_line line >>= passing (λ node. nat_lt number node.number))

@@ -7,7 +7,7 @@ use Rattle.std.specs.Map.{keys_of}
 use Rattle.std.specs.Ordering.{nat_cmp}
 use Rattle.std.specs.Cmp.Lexicographic.{slice_cmp}
 use Rattle.byte_words.specs.Bytes.{AreBytes, AreBytesOfLength}
-use Rattle.mount_limits.specs.declared.TheConstants.{BLOCK_SIZE, MOST_FILE_BYTES}
+use Rattle.mount_limits.specs.declared.TheConstants.{BLOCK_SIZE, MAX_FILE_BYTES}
 use Rattle.policy_ctx.specs.Context.{context_fault}
 use Rattle.disk_tree.specs.declared.node.Body.{Body}
 use Rattle.disk_tree.specs.declared.node.Body.TheVariants.{Dir, File, Link}
@@ -34,7 +34,7 @@ abbrev pub IsBody : Bool → Body → Type 0
 IsBody under_policy (Dir entries) =
     All (IsEntry under_policy) entries × IsStrictlySortedBy (slice_cmp nat_cmp) (keys_of entries)
 IsBody under_policy (File blocks size) =
-    (size ≤ MOST_FILE_BYTES) × (length blocks ≡ blocks_for size) × All (AreBytesOfLength BLOCK_SIZE) blocks
+    (size ≤ MAX_FILE_BYTES) × (length blocks ≡ blocks_for size) × All (AreBytesOfLength BLOCK_SIZE) blocks
 IsBody under_policy (Link target) = IsTrue (is_target under_policy target) × AreBytes target
 
 pub record IsNode (node : ImageNode) : Type 0 where

@@ -5,7 +5,7 @@ use Rattle.text_words.specs.Lines.{pieces_of}
 use Rattle.image_lines.specs.declared.image.NodeText.{NodeText}
 use Rattle.image_lines.specs.Image.{Image, ImageNode}
 use Rattle.image_lines.specs.ImageText.{ended, node_lines}
-use Rattle.image_lines.specs.Told.{node_at}
+use Rattle.image_lines.specs.WordForms.{node_at}
 
 -- the node
 abbrev pub node_in : NodeText → ImageNode

@@ -7,8 +7,8 @@ use Rattle.disk_tree.specs.declared.node.Body.TheVariants as body
 use Rattle.image_lines.specs.declared.node_line.NodeLine.{NodeLine}
 use Rattle.image_lines.specs.declared.round_of_lines.NodePlace.{NodePlace}
 use Rattle.image_lines.specs.Image.{ImageNode}
-use Rattle.image_lines.specs.Lines.{node_told}
-use Rattle.image_lines.specs.Told.{node_at}
+use Rattle.image_lines.specs.Lines.{node_of_line}
+use Rattle.image_lines.specs.WordForms.{node_at}
 
 -- in place of a node, if a text has none
 abbrev pub no_node : ImageNode
@@ -21,7 +21,7 @@ node_or_none (Some node) lines = node_at node lines
 -- the node of the first line
 abbrev pub first_node : List (List ℕ) → ImageNode
 first_node [] = no_node
-first_node (line ∷ lines) = node_or_none (node_told line) lines
+first_node (line ∷ lines) = node_or_none (node_of_line line) lines
 
 -- the node at a place of the text
 abbrev pub node_of_place : List ℕ → NodePlace → ImageNode
@@ -29,14 +29,14 @@ node_of_place text place =
     record (first_node (pieces_of (drop place.at text))) { number = place.number }
 
 -- the place of a node whose line begins at this index, if the line is a node's
-abbrev pub place_told : Option NodeLine → ℕ → List NodePlace
-place_told None at = []
-place_told (Some node) at = record { number = node.number; at = at } ∷ []
+abbrev pub place_of_line : Option NodeLine → ℕ → List NodePlace
+place_of_line None at = []
+place_of_line (Some node) at = record { number = node.number; at = at } ∷ []
 
 -- the places of the nodes among these lines, of which the first begins at this index
 unfoldable pub places_from : ℕ → List (List ℕ) → List NodePlace
 places_from at [] = []
-places_from at (line ∷ lines) = place_told (node_told line) at ++ places_from (at + length line + 1) lines
+places_from at (line ∷ lines) = place_of_line (node_of_line line) at ++ places_from (at + length line + 1) lines
 
 -- the places of the nodes of a text
 abbrev pub places_in : List ℕ → List NodePlace

@@ -6,7 +6,7 @@ use Rattle.image_lines.specs.Image.{Image}
 use Rattle.image_lines.specs.ImageText.{image_text}
 use Rattle.image_lines.specs.Rules.{IsImage}
 use Rattle.image_lines.specs.LineFaults.{line_fault}
-use Rattle.image_lines.specs.Told.{nodes_at}
+use Rattle.image_lines.specs.WordForms.{nodes_at}
 use Rattle.image_lines.specs.ChildFaults.{child_fault}
 
 -- the image, or the number of a line at fault

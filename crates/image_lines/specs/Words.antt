@@ -6,8 +6,8 @@ use Rattle.std.specs.Option.{option_map}
 use Rattle.std.specs.Str.{bytes_eq}
 use Rattle.text_words.specs.Digits.{hex_bytes, is_lower_hex_digit, lower_hex_bytes_of_length}
 use Rattle.text_words.specs.Numbers.{number_below}
-use Rattle.mount_limits.specs.declared.TheConstants.{MOST_FILE_BYTES}
-use Rattle.name_crypt.specs.declared.limits.TheConstants.{MOST_NAME_BYTES}
+use Rattle.mount_limits.specs.declared.TheConstants.{MAX_FILE_BYTES}
+use Rattle.name_crypt.specs.declared.limits.TheConstants.{MAX_NAME_BYTES}
 use Rattle.policy_ctx.specs.declared.TheConstants.{CONTEXT_LEN}
 use Rattle.policy_ctx.specs.Context.{context_fault}
 use Rattle.image_lines.specs.declared.node_line.NodeKind.{NodeKind}
@@ -24,13 +24,13 @@ None >>= f = None
 abbrev pub passing : {A : Type 0} → (A → Bool) → A → Option A
 passing test x = if test x then Some x else None
 
-abbrev pub number_told : List ℕ → Option ℕ
-number_told word = number_below (2 ^ 32) word
+abbrev pub number_of_word : List ℕ → Option ℕ
+number_of_word word = number_below (2 ^ 32) word
 
 -- at most 255 bytes in lower-case digits
-abbrev pub stored_told : List ℕ → Option (List ℕ)
-stored_told word =
-    if list_all is_lower_hex_digit word && nat_le (length word) (2 * MOST_NAME_BYTES)
+abbrev pub stored_name_of_word : List ℕ → Option (List ℕ)
+stored_name_of_word word =
+    if list_all is_lower_hex_digit word && nat_le (length word) (2 * MAX_NAME_BYTES)
     then hex_bytes word else None
 
 -- whether the bytes are a context's
@@ -38,23 +38,23 @@ abbrev pub is_context : List ℕ → Bool
 is_context bytes = is_none (context_fault bytes)
 
 -- a context in its 80 digits, or `-` for none
-abbrev pub context_told : List ℕ → Option (Option (List ℕ))
-context_told word =
+abbrev pub context_of_word : List ℕ → Option (Option (List ℕ))
+context_of_word word =
     if bytes_eq word (codes "-") then Some None
     else option_map Some (lower_hex_bytes_of_length CONTEXT_LEN word >>= passing is_context)
 
 -- a file of this size
-abbrev pub file_told : List ℕ → Option NodeKind
-file_told word = option_map File (number_told word >>= passing (λ size. nat_le size MOST_FILE_BYTES))
+abbrev pub file_of_word : List ℕ → Option NodeKind
+file_of_word word = option_map File (number_of_word word >>= passing (λ size. nat_le size MAX_FILE_BYTES))
 
 -- a link to this target
-abbrev pub link_told : Bool → List ℕ → Option NodeKind
-link_told under_policy word = option_map Link (stored_told word >>= passing (is_target under_policy))
+abbrev pub link_of_word : Bool → List ℕ → Option NodeKind
+link_of_word under_policy word = option_map Link (stored_name_of_word word >>= passing (is_target under_policy))
 
 -- the kind of node that a word names, with the word after the context, if there is one
-abbrev pub kind_told : List ℕ → Bool → Option (List ℕ) → Option NodeKind
-kind_told word under_policy None = if bytes_eq word (codes "dir") then Some Dir else None
-kind_told word under_policy (Some last) =
-    if bytes_eq word (codes "file") then file_told last
-    else if bytes_eq word (codes "link") then link_told under_policy last
+abbrev pub kind_of_word : List ℕ → Bool → Option (List ℕ) → Option NodeKind
+kind_of_word word under_policy None = if bytes_eq word (codes "dir") then Some Dir else None
+kind_of_word word under_policy (Some last) =
+    if bytes_eq word (codes "file") then file_of_word last
+    else if bytes_eq word (codes "link") then link_of_word under_policy last
     else None

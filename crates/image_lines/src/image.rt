@@ -11,9 +11,9 @@ ghost use Rattle.image_lines.specs.Places.{node_of_place, places_in};
 ghost use Rattle.image_lines.specs.ReadFaults.{IsReadFault};
 ghost use Rattle.image_lines.specs.Marks.{IsIndexOf};
 ghost use Rattle.image_lines.specs.declared.fault.ImageFault.TheVariants.{NoMemory};
-ghost use Rattle.image_lines.specs.declared.TheConstants.{MOST_IMAGE_BYTES};
+ghost use Rattle.image_lines.specs.declared.TheConstants.{MAX_IMAGE_BYTES};
 
-use crate::MOST_IMAGE_BYTES;
+use crate::MAX_IMAGE_BYTES;
 use crate::fault::ImageFault;
 use crate::lines::read_node_line;
 use crate::node_line::NodeLine;
@@ -37,13 +37,13 @@ impl<'a> Model for Image<'a> {
     ghost use Rattle.image_lines.specs.Image.{ImageNode};
     ghost use Rattle.image_lines.specs.Reading.{image_read};
     ghost use Rattle.image_lines.specs.Places.{node_of_place, places_in};
-    ghost use Rattle.image_lines.specs.declared.TheConstants.{MOST_IMAGE_BYTES};
+    ghost use Rattle.image_lines.specs.declared.TheConstants.{MAX_IMAGE_BYTES};
 
     ghost Value = { List ImageNode };
 
     ghost view = { λ image. map (node_of_place image.text.now) image.places.items };
 
-    ghost invariant = { λ image. (length image.text.now ≤ MOST_IMAGE_BYTES) × (image_read image.text.now
+    ghost invariant = { λ image. (length image.text.now ≤ MAX_IMAGE_BYTES) × (image_read image.text.now
         ≡ Ok (map (node_of_place image.text.now) image.places.items))
         × (image.places.items ≡ places_in image.text.now) };
 }
@@ -61,7 +61,7 @@ impl<'a> Image<'a> {
     /// Returns the text from which the image was read.
     pub fn text(&self) -> &'a [u8]
         ensures text { result.now ≡ image_text self.now }
-        ensures short { length result.now ≤ MOST_IMAGE_BYTES }
+        ensures short { length result.now ≤ MAX_IMAGE_BYTES }
         ensures image { IsImage self.now }
     {
         self.text
@@ -118,7 +118,7 @@ fn from_index(text: &[u8], at: usize) -> &[u8]
     &text[at..]
 }
 
-/// Reads an image from its text, of at most `MOST_IMAGE_BYTES` bytes. Returns the image with exactly this
+/// Reads an image from its text, of at most `MAX_IMAGE_BYTES` bytes. Returns the image with exactly this
 /// text, or one of these errors:
 /// - `BadLine` with the first line that may not be at its place, that no line feed ended, or that is
 ///   missing
@@ -126,7 +126,7 @@ fn from_index(text: &[u8], at: usize) -> &[u8]
 ///   is the child of an earlier entry line
 /// - `NoMemory`
 pub fn read_image(alloc: Global, text: &[u8]) -> Result<Image<'_>, ImageFault>
-    requires short { length text.now ≤ MOST_IMAGE_BYTES }
+    requires short { length text.now ≤ MAX_IMAGE_BYTES }
     ensures read { IfOk result (λ image. image_read text.now ≡ Ok image) }
     ensures found { IfOk result (λ image. IsImage image × (text.now ≡ image_text image)) }
     ensures every { (image : tree.Image) → IsImage image → text.now ≡ image_text image
@@ -139,7 +139,7 @@ pub fn read_image(alloc: Global, text: &[u8]) -> Result<Image<'_>, ImageFault>
 
 // Returns the places of the nodes of an image.
 fn read_places(alloc: Global, text: &[u8]) -> Result<Vec<NodePlace>, ImageFault>
-    requires short { length text.now ≤ MOST_IMAGE_BYTES }
+    requires short { length text.now ≤ MAX_IMAGE_BYTES }
     ensures read { IfOk result (λ places. image_read text.now
         ≡ Ok (map (node_of_place text.now) places.items)) }
     ensures places { IfOk result (λ places. places.items ≡ places_in text.now) }

@@ -20,4 +20,4 @@ pub use node_line::{EntryLine, NodeKind, NodeLine, StoredBytes};
 
 /// The maximum number of bytes of a text that is read as an image. The image of a mount has at most
 /// 209,108,476, by the law `mount_images_are_short` of `listing_laws`.
-pub const MOST_IMAGE_BYTES: usize = 268_435_456;
+pub const MAX_IMAGE_BYTES: usize = 268_435_456;

@@ -1,10 +1,10 @@
 //! What the lines of an image contain.
 
-use name_crypt::MOST_NAME_BYTES;
+use name_crypt::MAX_NAME_BYTES;
 use short_bytes::Filled;
 
 /// A name or a target as it is stored: at most 255 bytes.
-pub type StoredBytes = Filled<MOST_NAME_BYTES>;
+pub type StoredBytes = Filled<MAX_NAME_BYTES>;
 
 /// The content of the line of a node.
 #[derive(Clone, Copy)]

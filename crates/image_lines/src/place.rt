@@ -104,7 +104,7 @@ fn next_node(number: u32, line: &[u8]) -> Option<Place>
         kind,
     } = read_node_line(line)?;
     if number < next {
-        Some(place_behind(next, context.is_some(), kind))
+        Some(place_after(next, context.is_some(), kind))
     } else {
         None
     }
@@ -145,8 +145,8 @@ fn next_block(number: u32, left: u32, line: &[u8]) -> Option<Place>
 }
 
 // Returns the place after the line of a node.
-fn place_behind(number: u32, under_policy: bool, kind: NodeKind) -> Place
-    ensures { result ≡ nodes.place_behind number under_policy kind }
+fn place_after(number: u32, under_policy: bool, kind: NodeKind) -> Place
+    ensures { result ≡ nodes.place_after number under_policy kind }
 {
     match kind {
         NodeKind::Dir => Place::InDir {

@@ -3,14 +3,14 @@
 ghost use Rattle.std.specs.Prelude.{◌≡◌, ◌≤◌, ℕ, List, [], ◌∷◌, None, length, IfOk, IfErr, OnOk};
 ghost use Rattle.std.specs.Bool.{OnTrue};
 ghost use Rattle.text_words.specs.Lines.{pieces_of};
-ghost use Rattle.image_lines.specs.Lines.{entry_told};
-ghost use Rattle.image_lines.specs.ChildFaults.{child_fault_from, may_lead_to};
+ghost use Rattle.image_lines.specs.Lines.{entry_of_line};
+ghost use Rattle.image_lines.specs.ChildFaults.{child_fault_from, may_name_child};
 ghost use Rattle.image_lines.specs.Places.{DoRise, numbers_at};
 ghost use Rattle.image_lines.specs.ReadFaults.{IsFault};
 ghost use Rattle.image_lines.specs.Marks.{AreMarked, GoesOn, IsIndexOf};
-ghost use Rattle.image_lines.specs.declared.TheConstants.{MOST_IMAGE_BYTES};
+ghost use Rattle.image_lines.specs.declared.TheConstants.{MAX_IMAGE_BYTES};
 
-use crate::MOST_IMAGE_BYTES;
+use crate::MAX_IMAGE_BYTES;
 use crate::fault::ImageFault;
 use crate::lines::read_entry_line;
 use crate::round_of_lines::NodePlace;
@@ -24,7 +24,7 @@ pub(crate) fn check_children(
     text: &[u8],
     places: &[NodePlace],
 ) -> Result<(), ImageFault>
-    requires short { length text.now ≤ MOST_IMAGE_BYTES }
+    requires short { length text.now ≤ MAX_IMAGE_BYTES }
     requires rising { DoRise places.now }
     ensures faultless { OnOk result (child_fault_from 1 (numbers_at places.now) [] (pieces_of text.now)
         ≡ None) }
@@ -59,7 +59,7 @@ fn over_line(places: &[NodePlace], led: &mut Vec<bool>, line: &[u8]) -> bool
     requires rising { DoRise places.now }
     requires sized { length led.old.items ≡ length places.now }
     ensures { (earlier : List ℕ) → AreMarked (numbers_at places.now) earlier led.old.items
-        → GoesOn (numbers_at places.now) earlier (entry_told line.now) led.new.items result }
+        → GoesOn (numbers_at places.now) earlier (entry_of_line line.now) led.new.items result }
 {
     match read_entry_line(line) {
         Some(entry) => lead_to(places, led.as_mut_slice(), entry.child),
@@ -72,7 +72,7 @@ fn lead_to(places: &[NodePlace], led: &mut [bool], child: u32) -> bool
     requires rising { DoRise places.now }
     requires sized { length led.old ≡ length places.now }
     ensures { (earlier : List ℕ) → AreMarked (numbers_at places.now) earlier led.old
-        → (result ≡ may_lead_to (numbers_at places.now) earlier child)
+        → (result ≡ may_name_child (numbers_at places.now) earlier child)
         × OnTrue result (AreMarked (numbers_at places.now) (child ∷ earlier) led.new) }
 {
     if child == 0 {

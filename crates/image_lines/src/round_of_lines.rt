@@ -2,14 +2,14 @@
 
 ghost use Rattle.std.specs.Prelude.{◌≡◌, ◌≤◌, ◌++◌, None, map, length, IfOk, IfErr, OnOk};
 ghost use Rattle.text_words.specs.Lines.{pieces_of};
-ghost use Rattle.image_lines.specs.Lines.{node_told};
-ghost use Rattle.image_lines.specs.Told.{nodes_at};
+ghost use Rattle.image_lines.specs.Lines.{node_of_line};
+ghost use Rattle.image_lines.specs.WordForms.{nodes_at};
 ghost use Rattle.image_lines.specs.LineFaults.{line_fault};
-ghost use Rattle.image_lines.specs.Places.{node_of_place, place_told, places_in};
+ghost use Rattle.image_lines.specs.Places.{node_of_place, place_of_line, places_in};
 ghost use Rattle.image_lines.specs.ReadFaults.{IsFault};
-ghost use Rattle.image_lines.specs.declared.TheConstants.{MOST_IMAGE_BYTES};
+ghost use Rattle.image_lines.specs.declared.TheConstants.{MAX_IMAGE_BYTES};
 
-use crate::MOST_IMAGE_BYTES;
+use crate::MAX_IMAGE_BYTES;
 use crate::fault::ImageFault;
 use crate::lines::read_node_line;
 use crate::place::Place;
@@ -28,7 +28,7 @@ pub(crate) struct NodePlace {
 // Returns the places of the nodes. Otherwise the fault is the first line that may not be at its place, that
 // no line feed ended, or that is missing.
 pub(crate) fn node_places(alloc: Global, text: &[u8]) -> Result<Vec<NodePlace>, ImageFault>
-    requires short { length text.now ≤ MOST_IMAGE_BYTES }
+    requires short { length text.now ≤ MAX_IMAGE_BYTES }
     ensures faultless { IfOk result (λ places. line_fault text.now ≡ None) }
     ensures nodes { IfOk result (λ places. map (node_of_place text.now) places.items
         ≡ nodes_at (pieces_of text.now)) }
@@ -60,8 +60,8 @@ pub(crate) fn node_places(alloc: Global, text: &[u8]) -> Result<Vec<NodePlace>, 
 
 // Adds the place of the line, if it is a node's.
 fn add_place(places: &mut Vec<NodePlace>, line: &[u8], at: usize) -> Result<(), AllocError>
-    requires { at ≤ MOST_IMAGE_BYTES }
-    ensures { OnOk result (places.new.items ≡ places.old.items ++ place_told (node_told line.now) at) }
+    requires { at ≤ MAX_IMAGE_BYTES }
+    ensures { OnOk result (places.new.items ≡ places.old.items ++ place_of_line (node_of_line line.now) at) }
 {
     if let Some(node) = read_node_line(line) {
         places.push(NodePlace {

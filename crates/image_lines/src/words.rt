@@ -8,8 +8,8 @@ ghost use Rattle.image_lines.specs.Words as told;
 
 use crate::node_line::{EntryLine, NodeKind, NodeLine, StoredBytes};
 use crate::rules::is_target;
-use mount_limits::MOST_FILE_BYTES;
-use name_crypt::MOST_NAME_BYTES;
+use mount_limits::MAX_FILE_BYTES;
+use name_crypt::MAX_NAME_BYTES;
 use policy_ctx::{CONTEXT_LEN, decode_context};
 use text_words::{
     decimal_value, lower_hex_bytes, lower_hex_bytes_into, nth_word, two_words, word_count,
@@ -30,8 +30,8 @@ pub(crate) fn node_of_words(text: &[u8]) -> Option<NodeLine>
 {
     let words = node_words(text)?;
     let number = decimal_value(words.number)?;
-    let context = context_told(words.context)?;
-    let kind = kind_told(words.kind, context.is_some(), words.last)?;
+    let context = context_of_word(words.context)?;
+    let kind = kind_of_word(words.kind, context.is_some(), words.last)?;
     Some(NodeLine {
         number,
         context,
@@ -46,7 +46,7 @@ pub(crate) fn entry_of_words(text: &[u8]) -> Option<EntryLine>
 {
     let (child, name) = two_words(text)?;
     let child = decimal_value(child)?;
-    let name = stored_told(name)?;
+    let name = stored_name_of_word(name)?;
     Some(EntryLine { name, child })
 }
 
@@ -69,14 +69,14 @@ fn node_words(text: &[u8]) -> Option<NodeWords<'_>>
 }
 
 // Reads at most 255 bytes from lower-case digits.
-fn stored_told(word: &[u8]) -> Option<StoredBytes>
-    ensures { result ≡ told.stored_told word.now }
+fn stored_name_of_word(word: &[u8]) -> Option<StoredBytes>
+    ensures { result ≡ told.stored_name_of_word word.now }
 {
     let len = word.len() / 2;
-    if len > MOST_NAME_BYTES {
+    if len > MAX_NAME_BYTES {
         return None;
     }
-    let mut bytes = [0; MOST_NAME_BYTES];
+    let mut bytes = [0; MAX_NAME_BYTES];
     if !lower_hex_bytes_into(word, &mut bytes[..len]) {
         return None;
     }
@@ -84,8 +84,8 @@ fn stored_told(word: &[u8]) -> Option<StoredBytes>
 }
 
 // Reads a context from its 80 digits, or no context from `-`.
-fn context_told(word: &[u8]) -> Option<Option<[u8; CONTEXT_LEN]>>
-    ensures { result ≡ told.context_told word.now }
+fn context_of_word(word: &[u8]) -> Option<Option<[u8; CONTEXT_LEN]>>
+    ensures { result ≡ told.context_of_word word.now }
 {
     if word == b"-".as_slice() {
         return Some(None);
@@ -98,31 +98,31 @@ fn context_told(word: &[u8]) -> Option<Option<[u8; CONTEXT_LEN]>>
 }
 
 // Returns the kind of node that a word names, with the word after the context, if there is one.
-fn kind_told(word: &[u8], under_policy: bool, last: Option<&[u8]>) -> Option<NodeKind>
-    ensures { result ≡ told.kind_told word.now under_policy (option_map (λ last. last.now) last.entry) }
+fn kind_of_word(word: &[u8], under_policy: bool, last: Option<&[u8]>) -> Option<NodeKind>
+    ensures { result ≡ told.kind_of_word word.now under_policy (option_map (λ last. last.now) last.entry) }
 {
     match last {
         None if word == b"dir".as_slice() => Some(NodeKind::Dir),
-        Some(last) if word == b"file".as_slice() => file_told(last),
-        Some(last) if word == b"link".as_slice() => link_told(under_policy, last),
+        Some(last) if word == b"file".as_slice() => file_of_word(last),
+        Some(last) if word == b"link".as_slice() => link_of_word(under_policy, last),
         _ => None,
     }
 }
 
-fn file_told(word: &[u8]) -> Option<NodeKind>
-    ensures { result ≡ told.file_told word.now }
+fn file_of_word(word: &[u8]) -> Option<NodeKind>
+    ensures { result ≡ told.file_of_word word.now }
 {
     let size = decimal_value(word)?;
-    if size as usize > MOST_FILE_BYTES {
+    if size as usize > MAX_FILE_BYTES {
         return None;
     }
     Some(NodeKind::File { size })
 }
 
-fn link_told(under_policy: bool, word: &[u8]) -> Option<NodeKind>
-    ensures { result ≡ told.link_told under_policy word.now }
+fn link_of_word(under_policy: bool, word: &[u8]) -> Option<NodeKind>
+    ensures { result ≡ told.link_of_word under_policy word.now }
 {
-    let target = stored_told(word)?;
+    let target = stored_name_of_word(word)?;
     if !is_target(under_policy, target.bytes()) {
         return None;
     }

@@ -13,12 +13,12 @@ use Rattle.std.specs.FinMap.{nat_cmp-IsAntisymmetric, get-insert, get-remove, ge
 use Rattle.std.specs.BTreeMap as tree
 use Rattle.std.specs.BTreeMap.{BTreeMap}
 use Rattle.std.proofs.lemmas.Bool.{cases_Bool, cond-true, cond-false, true≢false, eqb-true}
-use Rattle.key_counts.specs.Counted.{counted}
+use Rattle.key_counts.specs.CountForms.{count_or_none}
 use Rattle.key_counts.proofs.CountLemmas.{tied}
 use Rattle.key_counts.proofs.ShownLemmas.{get-shown, shown-inserted, shown-removed}
 use Rattle.inode_refs.specs.declared.node_key.NodeKey.{NodeKey}
-use Rattle.inode_refs.specs.Cached.{KeyMap, pins_at, with_pins, given}
-use Rattle.inode_refs.specs.Kept.{KeyBox, keys_of, pins_in}
+use Rattle.inode_refs.specs.CacheMaps.{KeyMap, pins_at, with_pins, with_pinned_key}
+use Rattle.inode_refs.specs.CacheRules.{KeyBox, keys_of, pins_in}
 
 -- ---- keys
 
@@ -39,19 +39,19 @@ pub key_gone : (m n : BTreeMap ℕ KeyBox) (node : ℕ) → ((q : ℕ) → tree.
 key_gone m n node updates = shown-removed nat_cmp_total (λ (key : KeyBox). key.value) nat_cmp-IsAntisymmetric m n node updates
 
 -- a key that was passed and is removed again
-pub taken_back : (keys : KeyMap) (node : ℕ) (key : Option NodeKey) → map.get keys node ≡ None → map.remove (given keys node key) node ≡ keys
-taken_back keys node key absent = same_map nat_cmp_total nat_cmp-IsAntisymmetric _ _ (λ q. get-remove nat_cmp_total (given keys node key) node q ∙ ⊎_elim
+pub taken_back : (keys : KeyMap) (node : ℕ) (key : Option NodeKey) → map.get keys node ≡ None → map.remove (with_pinned_key keys node key) node ≡ keys
+taken_back keys node key absent = same_map nat_cmp_total nat_cmp-IsAntisymmetric _ _ (λ q. get-remove nat_cmp_total (with_pinned_key keys node key) node q ∙ ⊎_elim
     (λ here. cond-true (eq_by_cmp nat_cmp q node) None _ here ∙ sym (ap (map.get keys) (tied nat_cmp-IsAntisymmetric q node here) ∙ absent))
     (λ apart. cond-false (eq_by_cmp nat_cmp q node) None _ apart ∙ others key q apart)
     (cases_Bool (eq_by_cmp nat_cmp q node)))
   where
-    others : (key : Option NodeKey) (q : ℕ) → eq_by_cmp nat_cmp q node ≡ false → map.get (given keys node key) q ≡ map.get keys q
+    others : (key : Option NodeKey) (q : ℕ) → eq_by_cmp nat_cmp q node ≡ false → map.get (with_pinned_key keys node key) q ≡ map.get keys q
     others None q apart = refl
     others (Some k) q apart = ap (λ o. map.get (cond (is_none o) (map.insert keys node k) keys) q) absent
         ∙ (get-insert nat_cmp_total keys node k q ∙ cond-false (eq_by_cmp nat_cmp q node) (Some k) (map.get keys q) apart)
 
 -- a node with a key retains it, and one without takes the key that is passed
-pub given_cached : (keys : KeyMap) (node : ℕ) (key : Option NodeKey) → is_some (map.get keys node) ≡ true → given keys node key ≡ keys
+pub given_cached : (keys : KeyMap) (node : ℕ) (key : Option NodeKey) → is_some (map.get keys node) ≡ true → with_pinned_key keys node key ≡ keys
 given_cached keys node None there = refl
 given_cached keys node (Some k) there = at (map.get keys node) there
   where
@@ -59,7 +59,7 @@ given_cached keys node (Some k) there = at (map.get keys node) there
     at None bad = absurd (true≢false (sym bad))
     at (Some old) there = refl
 
-pub given_new : (keys : KeyMap) (node : ℕ) (key : NodeKey) → is_some (map.get keys node) ≡ false → given keys node (Some key) ≡ map.insert keys node key
+pub given_new : (keys : KeyMap) (node : ℕ) (key : NodeKey) → is_some (map.get keys node) ≡ false → with_pinned_key keys node (Some key) ≡ map.insert keys node key
 given_new keys node k absent = at (map.get keys node) absent
   where
     at : (o : Option NodeKey) → is_some o ≡ false → cond (is_none o) (map.insert keys node k) keys ≡ map.insert keys node k
@@ -91,7 +91,7 @@ module _ (m : BTreeMap ℕ ℕ) (node : ℕ) where
       some : eqb (pins_at (pins_in m.entries) node + 1) 0 ≡ false
       some = ⊎_elim (λ none. let zero : pins_at (pins_in m.entries) node + 1 ≡ 0 = eqb-true (pins_at (pins_in m.entries) node + 1) 0 none in absurd (omega arith)) (λ some. some) (cases_Bool (eqb (pins_at (pins_in m.entries) node + 1) 0))
 
-  pub pins_less : (n : BTreeMap ℕ ℕ) → ((q : ℕ) → tree.get nat_cmp n q ≡ cond (eq_by_cmp nat_cmp node q) (counted (unwrap_or (tree.get nat_cmp m node) 0 - 1)) (tree.get nat_cmp m q))
+  pub pins_less : (n : BTreeMap ℕ ℕ) → ((q : ℕ) → tree.get nat_cmp n q ≡ cond (eq_by_cmp nat_cmp node q) (count_or_none (unwrap_or (tree.get nat_cmp m node) 0 - 1)) (tree.get nat_cmp m q))
       → pins_in n.entries ≡ with_pins (pins_in m.entries) node (pins_at (pins_in m.entries) node - 1)
   pins_less n updates = ⊎_elim
       (λ last. shown-removed nat_cmp_total (λ count. count) nat_cmp-IsAntisymmetric m n node
@@ -106,12 +106,12 @@ module _ (m : BTreeMap ℕ ℕ) (node : ℕ) where
 -- ---- what a closure retains
 
 -- a closure that retains what passes a test as it is, and does not change, leaves a filter
-pub kept_by : {F K X : Type 0} (T : F → K → X → Bool → X → F → Type 0) (p : K × X → Bool) (f : F) → ((k : K) (v : X) (b : Bool) (w : X) (f' : F) → T f k v b w f' → (b ≡ p (k, v)) × (b ≡ true → w ≡ v) × (f' ≡ f))
+pub retained_by : {F K X : Type 0} (T : F → K → X → Bool → X → F → Type 0) (p : K × X → Bool) (f : F) → ((k : K) (v : X) (b : Bool) (w : X) (f' : F) → T f k v b w f' → (b ≡ p (k, v)) × (b ≡ true → w ≡ v) × (f' ≡ f))
     → (es kept : List (K × X)) → RetainsPairs T f es kept → kept ≡ filter p es
-kept_by T p f fact [] kept run = run
-kept_by {K = K} {X = X} T p f fact (e ∷ es) kept (b, w, f', rest, call, later, is) =
+retained_by T p f fact [] kept run = run
+retained_by {K = K} {X = X} T p f fact (e ∷ es) kept (b, w, f', rest, call, later, is) =
     let facts = fact e.0 e.1 b w f' call in
-    let others : rest ≡ filter p es = kept_by T p f fact es rest (subst (λ g. RetainsPairs T g es rest) facts.2 later) in
+    let others : rest ≡ filter p es = retained_by T p f fact es rest (subst (λ g. RetainsPairs T g es rest) facts.2 later) in
     is ∙ (at b w facts.1 ∙ (ap (λ c. cond c (e ∷ rest) rest) facts.0 ∙ ap (λ l. cond (p e) (e ∷ l) l) others))
   where
     at : (b : Bool) (w : X) → (b ≡ true → w ≡ e.1) → cond b ((e.0, w) ∷ rest) rest ≡ cond b (e ∷ rest) rest

@@ -7,8 +7,8 @@ use Rattle.std.specs.FinMap.{nat_cmp-IsAntisymmetric, get-insert, get-remove, sa
 use Rattle.std.proofs.lemmas.Bool.{cases_Bool, cond-true, cond-false, true≢false, eqb-true, eq-eqb}
 use Rattle.key_counts.proofs.CountLemmas.{tied}
 use Rattle.key_counts.proofs.ShownLemmas.{get-shown}
-use Rattle.inode_refs.specs.Cached.{PinMap, pins_at, with_pins}
-use Rattle.inode_refs.specs.Kept.{pins_in}
+use Rattle.inode_refs.specs.CacheMaps.{PinMap, pins_at, with_pins}
+use Rattle.inode_refs.specs.CacheRules.{pins_in}
 use Rattle.inode_refs.specs.Users.{HasPins}
 
 pub HasPins-none : (pins : List (ℕ × ℕ)) → pins ≡ [] → HasPins (pins_in pins)

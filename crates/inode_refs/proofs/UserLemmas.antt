@@ -11,16 +11,16 @@ use Rattle.std.proofs.lemmas.Bool.{cases_Bool, cases_lt, cond-true, cond-false, 
 use Rattle.policy_ctx.specs.declared.policy.KeyId.{KeyId}
 use Rattle.policy_ctx.specs.KeyIds.{same_id}
 use Rattle.policy_ctx.proofs.KeyIdLemmas.{same_id-refl, same_id-eq, same_id-symm}
-use Rattle.key_counts.specs.Counted.{counted}
+use Rattle.key_counts.specs.CountForms.{count_or_none}
 use Rattle.key_counts.proofs.CountLemmas.{raised, lowered, unwrap_or-counted}
 use Rattle.user_claims.specs.Claims.{id_cmp}
 use Rattle.user_claims.proofs.ClaimOrder.{id_cmp_total, id_cmp-IsAntisymmetric, id_ties}
 use Rattle.user_claims.proofs.SubMaps.{get-part}
 use Rattle.inode_refs.specs.declared.node_key.NodeKey.{NodeKey}
 use Rattle.inode_refs.specs.declared.users.Users.{Users}
-use Rattle.inode_refs.specs.Cached.{Cache, KeyMap, PinMap, key_at, pins_at, with_pins, given}
+use Rattle.inode_refs.specs.CacheMaps.{Cache, KeyMap, PinMap, key_at, pins_at, with_pins, with_pinned_key}
 use Rattle.inode_refs.specs.Evictions.{is_unpinned, has_id, users_of}
-use Rattle.inode_refs.specs.Kept.{KeyBox, keys_of, pins_in}
+use Rattle.inode_refs.specs.CacheRules.{KeyBox, keys_of, pins_in}
 use Rattle.inode_refs.specs.Users.{one_for, AreCounted, HasOneMore, HasOneLess, HasOther, IsCountedFor}
 use Rattle.inode_refs.specs.KeyUsers.{id_at, user_at, coming, leaving}
 
@@ -33,7 +33,7 @@ more_counted users n id updates f g kept more whole =
     (λ q. more q ∙ ap (λ b. f q + cond b 1 0) (id_ties id q)) updates
 
 pub less_counted : (users : Users) (n : BTreeMap KeyId ℕ) (id : KeyId)
-    → ((q : KeyId) → get id_cmp n q ≡ cond (eq_by_cmp id_cmp id q) (counted (unwrap_or (get id_cmp users.counts id) 0 - 1)) (get id_cmp users.counts q))
+    → ((q : KeyId) → get id_cmp n q ≡ cond (eq_by_cmp id_cmp id q) (count_or_none (unwrap_or (get id_cmp users.counts id) 0 - 1)) (get id_cmp users.counts q))
     → HasOneLess users (record users { counts = n }) (Some id)
 less_counted users n id updates f g kept less whole =
     lowered id_cmp_total id_cmp-IsAntisymmetric f g users.counts n id (kept whole)
@@ -73,7 +73,7 @@ not_exchanged users older newer alike f g kept same whole q =
     let ones : one_for (Some older) q ≡ one_for (Some newer) q = ap (λ (k : KeyId). one_for (Some k) q) is in
     let e = same q in
     let count : f q ≡ g q = omega arith in
-    kept whole q ∙ ap counted count
+    kept whole q ∙ ap count_or_none count
 
 -- ---- maps that differ in one node
 
@@ -160,14 +160,14 @@ module _ (cache : Cache) (n : ℕ) where
   inserted_here : (key : NodeKey) → map.get (map.insert cache.keys n key) n ≡ Some key
   inserted_here key = get-insert nat_cmp_total cache.keys n key n ∙ cond-true (eq_by_cmp nat_cmp n n) (Some key) _ (itself n)
 
-  given_apart : (key : Option NodeKey) (q : ℕ) → eq_by_cmp nat_cmp q n ≡ false → map.get (given cache.keys n key) q ≡ key_at cache q
+  given_apart : (key : Option NodeKey) (q : ℕ) → eq_by_cmp nat_cmp q n ≡ false → map.get (with_pinned_key cache.keys n key) q ≡ key_at cache q
   given_apart None q apart = refl
   given_apart (Some key) q apart = elim (cases_Bool (is_none (key_at cache n))) [
     | inl free ↦ ap (λ (m : KeyMap). map.get m q) (cond-true (is_none (key_at cache n)) _ _ free) ∙ inserted_apart key q apart
     | inr taken ↦ ap (λ (m : KeyMap). map.get m q) (cond-false (is_none (key_at cache n)) _ _ taken)
   ]
 
-  given_here : (key : Option NodeKey) → map.get (given cache.keys n key) n ≡ option_or (key_at cache n) key
+  given_here : (key : Option NodeKey) → map.get (with_pinned_key cache.keys n key) n ≡ option_or (key_at cache n) key
   given_here None = sym (or_none (key_at cache n))
     where
       or_none : (o : Option NodeKey) → option_or o None ≡ o
@@ -258,9 +258,9 @@ module _ (cache : Cache) (n : ℕ) where
 
   -- pin
   pub users_pinned : (key : Option NodeKey) (q : KeyId)
-      → users_of (record { keys = given cache.keys n key; pins = with_pins cache.pins n (pins_at cache.pins n + 1) }) q ≡ users_of cache q + one_for (coming cache n key) q
+      → users_of (record { keys = with_pinned_key cache.keys n key; pins = with_pins cache.pins n (pins_at cache.pins n + 1) }) q ≡ users_of cache q + one_for (coming cache n key) q
   users_pinned key q =
-      let new : Cache = record { keys = given cache.keys n key; pins = with_pins cache.pins n (pins_at cache.pins n + 1) } in
+      let new : Cache = record { keys = with_pinned_key cache.keys n key; pins = with_pins cache.pins n (pins_at cache.pins n + 1) } in
       let moved = users_moved cache new n (λ x apart. (given_apart key x apart, ap (λ c. eqb c 0) (pins_apart (pins_at cache.pins n + 1) x apart))) q in
       let pinned : is_unpinned new n ≡ false = ap (λ c. eqb c 0) (pins_here (pins_at cache.pins n + 1)) ∙ not_none (pins_at cache.pins n) in
       let is : one_for (user_at new n) q ≡ one_for (option_map (λ k. k.id) (option_or (key_at cache n) key)) q = λ i. one_for (cond (pinned i) None (option_map (λ (k : NodeKey). k.id) (given_here key i))) q in
@@ -328,11 +328,11 @@ pub first_counted : (users : Users) (keys : List (ℕ × KeyBox)) (pins : List (
     → AreCounted users (users_of (record { keys = keys_of keys; pins = pins_in pins }))
 first_counted users keys pins empty no_keys no_pins whole q =
     ap (lookup (eq_by_cmp id_cmp q)) empty
-    ∙ sym (ap counted ((λ i. users_of (record { keys = keys_of (no_keys i); pins = pins_in (no_pins i) }) q) ∙ users_none q))
+    ∙ sym (ap count_or_none ((λ i. users_of (record { keys = keys_of (no_keys i); pins = pins_in (no_pins i) }) q) ∙ users_none q))
 
 -- counts of equal numbers
 pub counted_alike : (users : Users) (f g : KeyId → ℕ) → AreCounted users f → ((q : KeyId) → g q ≡ f q) → AreCounted users g
-counted_alike users f g kept same whole q = kept whole q ∙ ap counted (sym (same q))
+counted_alike users f g kept same whole q = kept whole q ∙ ap count_or_none (sym (same q))
 
 -- a node with pins becomes no user if no key is cached
 pub none_comes : (cache : Cache) (n : ℕ) (key : Option NodeKey) → is_unpinned cache n ≡ false → (is_some (key_at cache n) || is_none key) ≡ true → is_none (coming cache n key) ≡ true

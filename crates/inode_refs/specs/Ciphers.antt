@@ -2,7 +2,7 @@
 use Rattle.std.specs.Prelude.{ℕ, List, Option, Some, None, option_and_then}
 use Rattle.fsc_keys.specs.declared.file_keys.FileKey.{FileKey}
 use Rattle.fsc_keys.specs.declared.file_keys.FileKey.TheVariants as key
-use Rattle.inode_refs.specs.Cached.{Cache, key_at}
+use Rattle.inode_refs.specs.CacheMaps.{Cache, key_at}
 
 -- the bytes of a key, if it is one of names
 abbrev pub names_in : FileKey → Option (List ℕ)

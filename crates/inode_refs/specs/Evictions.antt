@@ -5,7 +5,7 @@ use Rattle.std.specs.Option.{option_map_or}
 use Rattle.std.specs.FinMap as map
 use Rattle.policy_ctx.specs.declared.policy.KeyId.{KeyId}
 use Rattle.policy_ctx.specs.KeyIds.{same_id}
-use Rattle.inode_refs.specs.Cached.{KeyMap, Cache, key_at, pins_of}
+use Rattle.inode_refs.specs.CacheMaps.{KeyMap, Cache, key_at, pins_of}
 
 -- whether the node has no pins
 abbrev pub is_unpinned : Cache → ℕ → Bool
@@ -17,11 +17,11 @@ has_id cache id node = option_map_or (λ key. same_id key.id id) (key_at cache n
 
 -- the keys that are left after those derived from the master key are removed from the nodes without pins,
 -- and after all keys are removed from them
-abbrev pub evicted : Cache → KeyId → KeyMap
-evicted cache id = map.retain_keys cache.keys (λ node. not (is_unpinned cache node && has_id cache id node))
+abbrev pub without_derived_keys : Cache → KeyId → KeyMap
+without_derived_keys cache id = map.retain_keys cache.keys (λ node. not (is_unpinned cache node && has_id cache id node))
 
-abbrev pub all_evicted : Cache → KeyMap
-all_evicted cache = map.retain_keys cache.keys (λ node. not (is_unpinned cache node))
+abbrev pub without_unpinned_keys : Cache → KeyMap
+without_unpinned_keys cache = map.retain_keys cache.keys (λ node. not (is_unpinned cache node))
 
 -- how many nodes with pins have a key that was derived from the master key
 abbrev pub users_of : Cache → KeyId → ℕ

@@ -3,7 +3,7 @@
 use Rattle.std.specs.Prelude.{ℕ, ◌==◌, if◌then◌else◌, Option, None, is_some, option_map}
 use Rattle.policy_ctx.specs.declared.policy.KeyId.{KeyId}
 use Rattle.inode_refs.specs.declared.node_key.NodeKey.{NodeKey}
-use Rattle.inode_refs.specs.Cached.{Cache, key_at, pins_of}
+use Rattle.inode_refs.specs.CacheMaps.{Cache, key_at, pins_of}
 use Rattle.inode_refs.specs.Evictions.{is_unpinned}
 
 -- the identifier of the node's key

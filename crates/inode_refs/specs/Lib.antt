@@ -1,7 +1,7 @@
-pub mod Cached
+pub mod CacheMaps
 pub mod Evictions
 pub mod Ciphers
-pub mod Kept
+pub mod CacheRules
 pub mod KeyUsers
 pub mod Users
 pub mod Whole

@@ -4,10 +4,10 @@ use Rattle.std.specs.BTreeMap.{get}
 use Rattle.std.specs.FinMap as map
 use Rattle.policy_ctx.specs.declared.policy.KeyId.{KeyId}
 use Rattle.policy_ctx.specs.KeyIds.{same_id}
-use Rattle.key_counts.specs.Counted.{counted}
+use Rattle.key_counts.specs.CountForms.{count_or_none}
 use Rattle.user_claims.specs.Claims.{id_cmp}
 use Rattle.inode_refs.specs.declared.users.Users.{Users}
-use Rattle.inode_refs.specs.Cached.{Cache, PinMap}
+use Rattle.inode_refs.specs.CacheMaps.{Cache, PinMap}
 use Rattle.inode_refs.specs.Evictions.{users_of}
 
 -- one for the identifier, if there is one
@@ -17,14 +17,14 @@ one_for (Some id) q = if same_id id q then 1 else 0
 
 -- there is the count of each identifier, if users are counted
 abbrev pub AreCounted : Users → (KeyId → ℕ) → Type 0
-AreCounted users f = users.is_whole ≡ true → (id : KeyId) → get id_cmp users.counts id ≡ counted (f id)
+AreCounted users f = users.is_whole ≡ true → (id : KeyId) → get id_cmp users.counts id ≡ count_or_none (f id)
 
 -- a node with an entry among the pins has at least one
 abbrev pub HasPins : PinMap → Type 0
 HasPins pins = (node count : ℕ) → map.get pins node ≡ Some count → 0 < count
 
 -- what is stored beside the cache's keys and pins
-pub record IsKept (users : Users) (cache : Cache) : Type 0 where
+pub record IsConsistentCache (users : Users) (cache : Cache) : Type 0 where
   pub counted : AreCounted users (users_of cache)
   pub some : HasPins cache.pins
 

@@ -1,7 +1,7 @@
 -- The visible parts of the cache and of a cached key are all that there is of keys: with any other part
 -- the laws here would not hold.
 use Rattle.std.specs.Prelude.{◌≡◌}
-use Rattle.inode_refs.specs.Kept.{IsCipherIn}
+use Rattle.inode_refs.specs.CacheRules.{IsCipherIn}
 use Rattle.inode_refs.specs.declared.cache.InodeCache.TheInside as cache
 use Rattle.inode_refs.specs.declared.cached_key.CachedKey.TheInside as cached
 

@@ -5,12 +5,12 @@ ghost use Rattle.std.specs.Prelude.{option_copied, is_some, is_none, IsSome, IfS
 ghost use Rattle.std.specs.Option.{option_map};
 ghost use Rattle.std.specs.FinMap as map;
 ghost use Rattle.byte_words.specs.Bytes.{AreBytes};
-ghost use Rattle.inode_refs.specs.Cached.{no_cache, key_at, pins_of, with_pins, given};
-ghost use Rattle.inode_refs.specs.Evictions.{users_of, is_unpinned, evicted, all_evicted};
+ghost use Rattle.inode_refs.specs.CacheMaps.{no_cache, key_at, pins_of, with_pins, with_pinned_key};
+ghost use Rattle.inode_refs.specs.Evictions.{users_of, is_unpinned, without_derived_keys, without_unpinned_keys};
 ghost use Rattle.inode_refs.specs.Ciphers.{names_key_at};
 ghost use Rattle.inode_refs.specs.KeyUsers.{id_at};
 
-use crate::kept::{Keys, discard, forget, goes, is_pinned, keep_in, pin_in, stays_for, users_in};
+use crate::kept::{Keys, cache_in, discard, forget, goes, is_pinned, pin_in, stays_for, users_in};
 use crate::node_key::NodeKey;
 use crate::users::Users;
 use aes_core::Aes256;
@@ -49,9 +49,9 @@ impl Model for InodeCache {
     ghost use Rattle.std.specs.Coded.{code_by, coded×, coded_ℕ};
     ghost use Rattle.std.specs.FinMap.{code};
     ghost use Rattle.inode_refs.specs.contracts.node_key.NodeKey as key;
-    ghost use Rattle.inode_refs.specs.Cached.{Cache, KeyMap, PinMap};
-    ghost use Rattle.inode_refs.specs.Kept.{keys_of, pins_in};
-    ghost use Rattle.inode_refs.specs.Users.{IsKept};
+    ghost use Rattle.inode_refs.specs.CacheMaps.{Cache, KeyMap, PinMap};
+    ghost use Rattle.inode_refs.specs.CacheRules.{keys_of, pins_in};
+    ghost use Rattle.inode_refs.specs.Users.{IsConsistentCache};
 
     ghost Value = { Cache };
 
@@ -63,7 +63,7 @@ impl Model for InodeCache {
 
     ghost view = { λ c. record { keys = keys_of c.keys.entries; pins = pins_in c.pins.entries } };
 
-    ghost invariant = { λ c. IsKept c.users
+    ghost invariant = { λ c. IsConsistentCache c.users
         (record { keys = keys_of c.keys.entries; pins = pins_in c.pins.entries }) };
 }
 
@@ -144,7 +144,7 @@ impl InodeCache {
     {
         let key = NodeKey { id, key };
         if self.pins(node) == 0 {
-            return keep_in(&mut self.keys, alloc, node, key);
+            return cache_in(&mut self.keys, alloc, node, key);
         }
         self.keep_counted(alloc, node, key)
     }
@@ -158,14 +158,14 @@ impl InodeCache {
     {
         if let Some(older) = self.id_at(node) {
             self.users.exchange(older, key.id);
-            return keep_in(&mut self.keys, alloc, node, key);
+            return cache_in(&mut self.keys, alloc, node, key);
         }
         let id = Some(key.id);
         if self.users.more(id).is_err() {
             key.key.wipe();
             return Err(AllocError);
         }
-        if keep_in(&mut self.keys, alloc, node, key).is_err() {
+        if cache_in(&mut self.keys, alloc, node, key).is_err() {
             self.users.less(id);
             return Err(AllocError);
         }
@@ -192,7 +192,7 @@ impl InodeCache {
     ) -> Result<(), AllocError>
         requires { pins_of self.old node + 1 < 2 ^ 32 }
         ensures pinned { OnOk result (self.new ≡ record {
-          keys = given self.old.keys node key;
+          keys = with_pinned_key self.old.keys node key;
           pins = with_pins self.old.pins node (pins_of self.old node + 1);
         }) }
         ensures kept { OnErr result (self.new ≡ self.old) }
@@ -226,7 +226,7 @@ impl InodeCache {
     /// Wipes and removes the keys that were derived from this master key, on the nodes without pins. It
     /// takes no memory.
     pub fn evict_unpinned(&mut self, id: &KeyId)
-        ensures { self.new ≡ record self.old { keys = evicted self.old id.now } }
+        ensures { self.new ≡ record self.old { keys = without_derived_keys self.old id.now } }
     {
         let pins = &self.pins;
         self.keys
@@ -235,7 +235,7 @@ impl InodeCache {
 
     /// Wipes and removes all keys on the nodes without pins. It takes no memory.
     pub fn evict_all_unpinned(&mut self)
-        ensures { self.new ≡ record self.old { keys = all_evicted self.old } }
+        ensures { self.new ≡ record self.old { keys = without_unpinned_keys self.old } }
     {
         let pins = &self.pins;
         self.keys

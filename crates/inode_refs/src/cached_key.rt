@@ -4,7 +4,7 @@ ghost use Rattle.std.specs.Prelude.{◌≡◌, option_copied, IfSome};
 ghost use Rattle.byte_words.specs.Bytes.{AreBytes};
 ghost use Rattle.fsc_keys.specs.Keys.{zeros_for};
 ghost use Rattle.inode_refs.specs.Ciphers.{names_in};
-ghost use Rattle.inode_refs.specs.Kept.{IsCipherIn};
+ghost use Rattle.inode_refs.specs.CacheRules.{IsCipherIn};
 
 use crate::node_key::NodeKey;
 use aes_core::Aes256;
@@ -22,7 +22,7 @@ pub(crate) struct CachedKey {
 
 impl Model for CachedKey {
     ghost use Rattle.inode_refs.specs.declared.node_key.NodeKey.{NodeKey};
-    ghost use Rattle.inode_refs.specs.Kept.{IsCipherIn};
+    ghost use Rattle.inode_refs.specs.CacheRules.{IsCipherIn};
 
     ghost Value = { NodeKey };
 

@@ -8,8 +8,8 @@ ghost use Rattle.std.specs.Ordering.{nat_cmp};
 ghost use Rattle.policy_ctx.specs.KeyIds.{same_id};
 ghost use Rattle.fsc_keys.specs.Keys.{zeros_for};
 ghost use Rattle.inode_refs.specs.declared.node_key.NodeKey.{NodeKey};
-ghost use Rattle.inode_refs.specs.Cached.{pins_at, with_pins, given};
-ghost use Rattle.inode_refs.specs.Kept.{keys_of, pins_in, is_user};
+ghost use Rattle.inode_refs.specs.CacheMaps.{pins_at, with_pins, with_pinned_key};
+ghost use Rattle.inode_refs.specs.CacheRules.{keys_of, pins_in, is_user};
 
 use crate::cached_key::CachedKey;
 use crate::node_key::NodeKey;
@@ -78,7 +78,7 @@ pub(crate) fn discard(key: &mut Option<NodeKey>)
 }
 
 // Caches the key of the node, in the place of the one before.
-pub(crate) fn keep_in(
+pub(crate) fn cache_in(
     keys: &mut Keys,
     alloc: Global,
     node: u32,
@@ -117,7 +117,7 @@ pub(crate) fn give_in(
     node: u32,
     mut key: Option<NodeKey>,
 ) -> Result<(), AllocError>
-    ensures given { OnOk result (keys_of keys.new.entries ≡ given (keys_of keys.old.entries) node key) }
+    ensures given { OnOk result (keys_of keys.new.entries ≡ with_pinned_key (keys_of keys.old.entries) node key) }
     ensures as_before { OnErr result (keys_of keys.new.entries ≡ keys_of keys.old.entries) }
     ensures again { (is_some (map.get (keys_of keys.old.entries) node) || is_none key) ≡ true → IsOk result }
 {
@@ -126,7 +126,7 @@ pub(crate) fn give_in(
         return Ok(());
     }
     match key {
-        Some(key) => keep_in(keys, alloc, node, key),
+        Some(key) => cache_in(keys, alloc, node, key),
         None => Ok(()),
     }
 }
@@ -141,7 +141,7 @@ pub(crate) fn pin_in(
     key: Option<NodeKey>,
 ) -> Result<(), AllocError>
     requires { pins_at (pins_in pins.old.entries) node + 1 < 2 ^ 32 }
-    ensures given { OnOk result (keys_of keys.new.entries ≡ given (keys_of keys.old.entries) node key) }
+    ensures given { OnOk result (keys_of keys.new.entries ≡ with_pinned_key (keys_of keys.old.entries) node key) }
     ensures pinned { OnOk result (pins_in pins.new.entries
         ≡ with_pins (pins_in pins.old.entries) node (pins_at (pins_in pins.old.entries) node + 1)) }
     ensures keys { OnErr result (keys_of keys.new.entries ≡ keys_of keys.old.entries) }

@@ -1,2 +1,2 @@
-pub mod Counted
-pub mod Shown
+pub mod CountForms
+pub mod MapViews

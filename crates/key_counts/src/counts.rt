@@ -4,7 +4,7 @@ ghost use Rattle.std.specs.Prelude.{◌≡◌, ◌+◌, ◌-◌, ◌<◌, ◌^�
 ghost use Rattle.std.specs.Prelude.{IsSome, IsOk, OnOk, OnErr};
 ghost use Rattle.std.specs.BTreeMap as tree;
 ghost use Rattle.std.specs.Ordering.{eq_by_cmp};
-ghost use Rattle.key_counts.specs.Counted.{counted};
+ghost use Rattle.key_counts.specs.CountForms.{count_or_none};
 
 use std::alloc::AllocError;
 use std::collections::BTreeMap;
@@ -34,7 +34,7 @@ pub fn one_more<K: Ord + Drop>(counts: &mut BTreeMap<K, u32>, key: K) -> Result<
 pub fn one_less<K: Ord + Drop>(counts: &mut BTreeMap<K, u32>, key: &K)
     requires { 0 < unwrap_or (tree.get K.cmp counts.old key.now) 0 }
     ensures { (q : K) → tree.get K.cmp counts.new q ≡ (if eq_by_cmp K.cmp key.now q
-        then counted (unwrap_or (tree.get K.cmp counts.old key.now) 0 - 1)
+        then count_or_none (unwrap_or (tree.get K.cmp counts.old key.now) 0 - 1)
         else tree.get K.cmp counts.old q) }
 {
     let left = count_of(counts, key) - 1;

@@ -22,5 +22,5 @@ abbrev pub HoldsClaimedSecrets : Holding → Type 0
 HoldsClaimedSecrets ring = (id : KeyId) → is_some (secret_of ring id) ≡ is_present ring.claims id
 
 -- the secrets once these claims are left: the key without a claim has no secret
-abbrev pub secrets_left : SecretMap → ClaimSet → KeyId → SecretMap
-secrets_left secrets claims id = if is_present claims id then secrets else map.remove secrets id
+abbrev pub remaining_secrets : SecretMap → ClaimSet → KeyId → SecretMap
+remaining_secrets secrets claims id = if is_present claims id then secrets else map.remove secrets id

@@ -4,7 +4,7 @@ use Rattle.std.specs.Global.{Global}
 use Rattle.std.specs.declared.boxed.Box.{Box}
 use Rattle.policy_ctx.specs.declared.policy.KeyId.{KeyId}
 use Rattle.user_claims.specs.Claims.{id_cmp}
-use Rattle.key_counts.specs.Shown.{shown}
+use Rattle.key_counts.specs.MapViews.{map_by_order}
 use Rattle.key_ring.specs.declared.mode_key.ModeKey.{ModeKey}
 use Rattle.key_ring.specs.Modes.{ModeMap}
 
@@ -13,4 +13,4 @@ ModeBox = Box ModeKey Global
 
 -- the mode keys in the boxes
 abbrev pub modes_of : List (KeyId × ModeBox) → ModeMap
-modes_of entries = shown id_cmp (λ mode. mode.value) entries
+modes_of entries = map_by_order id_cmp (λ mode. mode.value) entries

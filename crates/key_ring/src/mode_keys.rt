@@ -86,7 +86,7 @@ impl ModeKeys {
         ensures held { OnOk result
             (self.new ≡ with_kind self.old kind (with_users (of_kind self.old kind) id.now key users)) }
         ensures kept { OnErr result (self.new ≡ self.old) }
-        ensures stands { IsSome (mode_at self.old id.now kind) → IsOk result }
+        ensures represents { IsSome (mode_at self.old id.now kind) → IsOk result }
     {
         match kind {
             KeyKind::Contents => hold_in(&mut self.contents, alloc, id, key, users),
@@ -157,7 +157,7 @@ fn hold_in(
     ensures held { OnOk result
         (modes_of modes.new.entries ≡ with_users (modes_of modes.old.entries) id.now key users) }
     ensures kept { OnErr result (modes_of modes.new.entries ≡ modes_of modes.old.entries) }
-    ensures stands { IsSome (map.get (modes_of modes.old.entries) id.now) → IsOk result }
+    ensures represents { IsSome (map.get (modes_of modes.old.entries) id.now) → IsOk result }
 {
     let total = count_in(modes, id) + users;
     if let Some(mode) = modes.get_mut(id) {

@@ -5,7 +5,7 @@ ghost use Rattle.std.specs.FinMap as map;
 ghost use Rattle.fsc_keys.specs.Keys.{key_id_of};
 ghost use Rattle.user_claims.specs.Claims.{no_claims, has_claim, with_claim, without_claim, without_id};
 ghost use Rattle.user_claims.specs.ClaimCounts.{IsOverQuota, count_of_id};
-ghost use Rattle.key_ring.specs.Holding.{secret_of, secrets_left, HoldsClaimedSecrets};
+ghost use Rattle.key_ring.specs.Holding.{secret_of, remaining_secrets, HoldsClaimedSecrets};
 
 use super::secrets;
 use super::secrets::Secrets;
@@ -102,7 +102,7 @@ impl KeyRing {
         requires held { IsTrue (has_claim self.old.claims id.now uid) }
         ensures claims { self.new.claims ≡ without_claim self.old.claims id.now uid }
         ensures left { result ≡ count_of_id self.new.claims id.now }
-        ensures secrets { self.new.secrets ≡ secrets_left self.old.secrets self.new.claims id.now }
+        ensures secrets { self.new.secrets ≡ remaining_secrets self.old.secrets self.new.claims id.now }
     {
         self.claims.unclaim(id, uid);
         let left = self.claims.count_of_id(id);

@@ -9,32 +9,32 @@ use Rattle.key_wrap.specs.CounterMode.{counter_block, keystream, counter_mode}
 use Rattle.key_wrap.proofs.ByteLemmas.{xor_bytes-longer, xor_bytes-take, xor_bytes-back, length-xor_bytes_longer}
 
 -- the keystream has no fewer bytes than the text
-pub keystream-long : (encipher : List ℕ → List ℕ) (iv : List ℕ) (len : ℕ) → ((x : List ℕ) → length (encipher x) ≡ 16) → len ≤ length (keystream encipher iv len)
+pub keystream-long : (encrypt : List ℕ → List ℕ) (iv : List ℕ) (len : ℕ) → ((x : List ℕ) → length (encrypt x) ≡ 16) → len ≤ length (keystream encrypt iv len)
 unfolding keystream
-keystream-long encipher iv len sizes =
-    let whole : length (first_blocks (λ j. encipher (counter_block iv j)) (div_ceil len 16)) ≡ 16 * div_ceil len 16 =
-    length-first_blocks 16 (λ j. encipher (counter_block iv j)) (div_ceil len 16) (λ j. sizes (counter_block iv j)) in
+keystream-long encrypt iv len sizes =
+    let whole : length (first_blocks (λ j. encrypt (counter_block iv j)) (div_ceil len 16)) ≡ 16 * div_ceil len 16 =
+    length-first_blocks 16 (λ j. encrypt (counter_block iv j)) (div_ceil len 16) (λ j. sizes (counter_block iv j)) in
     omega (arith, div_ceil_times len 16 (omega arith))
 
 -- a longer stream, cut at the end of the text, does the same
-pub counter_mode-cut : (encipher : List ℕ → List ℕ) (iv text rest : List ℕ) → ((x : List ℕ) → length (encipher x) ≡ 16) →
-    xor_bytes text (take (length text) (keystream encipher iv (length text) ++ rest)) ≡ counter_mode encipher iv text
+pub counter_mode-cut : (encrypt : List ℕ → List ℕ) (iv text rest : List ℕ) → ((x : List ℕ) → length (encrypt x) ≡ 16) →
+    xor_bytes text (take (length text) (keystream encrypt iv (length text) ++ rest)) ≡ counter_mode encrypt iv text
 unfolding counter_mode
-counter_mode-cut encipher iv text rest sizes =
-    xor_bytes-take text (keystream encipher iv (length text) ++ rest)
-    ∙ xor_bytes-longer text (keystream encipher iv (length text)) rest (keystream-long encipher iv (length text) sizes)
+counter_mode-cut encrypt iv text rest sizes =
+    xor_bytes-take text (keystream encrypt iv (length text) ++ rest)
+    ∙ xor_bytes-longer text (keystream encrypt iv (length text)) rest (keystream-long encrypt iv (length text) sizes)
 
-pub length-counter_mode : (encipher : List ℕ → List ℕ) (iv text : List ℕ) → ((x : List ℕ) → length (encipher x) ≡ 16) → length (counter_mode encipher iv text) ≡ length text
+pub length-counter_mode : (encrypt : List ℕ → List ℕ) (iv text : List ℕ) → ((x : List ℕ) → length (encrypt x) ≡ 16) → length (counter_mode encrypt iv text) ≡ length text
 unfolding counter_mode
-length-counter_mode encipher iv text sizes =
-    length-xor_bytes_longer text (keystream encipher iv (length text)) (keystream-long encipher iv (length text) sizes)
+length-counter_mode encrypt iv text sizes =
+    length-xor_bytes_longer text (keystream encrypt iv (length text)) (keystream-long encrypt iv (length text) sizes)
 
 -- the second pass undoes the first
-pub counter_mode-twice : (encipher : List ℕ → List ℕ) (iv text : List ℕ) → ((x : List ℕ) → length (encipher x) ≡ 16) →
-    counter_mode encipher iv (counter_mode encipher iv text) ≡ text
+pub counter_mode-twice : (encrypt : List ℕ → List ℕ) (iv text : List ℕ) → ((x : List ℕ) → length (encrypt x) ≡ 16) →
+    counter_mode encrypt iv (counter_mode encrypt iv text) ≡ text
 unfolding counter_mode
-counter_mode-twice encipher iv text sizes =
-    let stream : List ℕ = keystream encipher iv (length text) in
-    let long : length text ≤ length stream = keystream-long encipher iv (length text) sizes in
-    ap (λ n. xor_bytes (xor_bytes text stream) (keystream encipher iv n)) (length-xor_bytes_longer text stream long)
+counter_mode-twice encrypt iv text sizes =
+    let stream : List ℕ = keystream encrypt iv (length text) in
+    let long : length text ≤ length stream = keystream-long encrypt iv (length text) sizes in
+    ap (λ n. xor_bytes (xor_bytes text stream) (keystream encrypt iv n)) (length-xor_bytes_longer text stream long)
     ∙ xor_bytes-back text stream long

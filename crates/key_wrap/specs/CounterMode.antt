@@ -11,8 +11,8 @@ counter_block iv j = big_endian_bytes 16 ((big_endian_value iv + j) % 2 ^ 128)
 
 -- as many encrypted counters as the text has blocks, the last of which may be shorter
 unfoldable pub keystream : (List ℕ → List ℕ) → List ℕ → ℕ → List ℕ
-keystream encipher iv len = first_blocks (λ j. encipher (counter_block iv j)) (div_ceil len 16)
+keystream encrypt iv len = first_blocks (λ j. encrypt (counter_block iv j)) (div_ceil len 16)
 
 -- the text xored with its keystream, as far as the text goes; decryption is the same
 unfoldable pub counter_mode : (List ℕ → List ℕ) → List ℕ → List ℕ → List ℕ
-counter_mode encipher iv text = xor_bytes text (keystream encipher iv (length text))
+counter_mode encrypt iv text = xor_bytes text (keystream encrypt iv (length text))

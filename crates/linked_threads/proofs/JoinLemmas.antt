@@ -8,12 +8,12 @@ use Rattle.mount_shared.specs.SharedCalls.{MountPass}
 use Rattle.script_lang.specs.declared.commands.Section.{Section}
 use Rattle.fsc_session.specs.ScriptRun.{notes_by}
 use Rattle.mount_links.specs.declared.step.LinkStep.{LinkStep}
-use Rattle.fsc_commands.specs.declared.TheConstants.{MOST_CALLS}
+use Rattle.fsc_commands.specs.declared.TheConstants.{MAX_CALLS}
 use Rattle.script_runs.specs.InRange.{AreInRange}
 use Rattle.script_runs.specs.Passes.{AreHalves, IsAsBefore, RunFrom, Shows, calls_of}
 use Rattle.script_runs.proofs.JoinLemmas.{as_before_both, behind_high, behind_low, below_or_above, border_of, joined_high, joined_low, none_above, noted_both, run_both, shows_both}
 use Rattle.script_runs.proofs.RangeLemmas.{in_range_between}
-use Rattle.linked_turns.specs.declared.told.LinkedTold.{LinkedTold}
+use Rattle.linked_turns.specs.declared.output.LinkedOutput.{LinkedOutput}
 use Rattle.linked_turns.specs.Parts.{HasParts, is_even}
 use Rattle.linked_turns.proofs.TurnLemmas.{parts_as}
 use Rattle.linked_threads.specs.Threaded.{OnBoth, HaveCalled, HaveRun}
@@ -35,9 +35,9 @@ has_none c steps made even odd none parts =
     record { none = none; no_even = both_none.0; no_odd = both_none.1 }
 
 module _ (seed : List ℕ) (shared : OnBoth SharedView) (old lower upper lower' upper' : OnBoth MountPass)
-    (first others : List Section) (told more : LinkedTold)
-    (cut_even : AreHalves MOST_CALLS shared.even old.even lower.even upper.even first others)
-    (cut_odd : AreHalves (2 * MOST_CALLS) shared.odd old.odd lower.odd upper.odd first others)
+    (first others : List Section) (told more : LinkedOutput)
+    (cut_even : AreHalves MAX_CALLS shared.even old.even lower.even upper.even first others)
+    (cut_odd : AreHalves (2 * MAX_CALLS) shared.odd old.odd lower.odd upper.odd first others)
     (one : HaveRun seed lower first lower' told) (two : HaveRun seed upper others upper' more) where
   -- what both halves have together
   abbrev evens : MountPass
@@ -50,7 +50,7 @@ module _ (seed : List ℕ) (shared : OnBoth SharedView) (old lower upper lower' 
   all_made = one.made ++ two.made
 
   border : upper.even.who ≡ old.even.who + length first
-  border = border_of MOST_CALLS shared.even old.even lower.even upper.even first others cut_even
+  border = border_of MAX_CALLS shared.even old.even lower.even upper.even first others cut_even
 
   ran_first : RunFrom seed old.even.who first one.made
   ran_first = subst (λ (w : ℕ). RunFrom seed w first one.made) cut_even.lowest one.called.run
@@ -99,7 +99,7 @@ module _ (seed : List ℕ) (shared : OnBoth SharedView) (old lower upper lower' 
       told.notes.items more.notes.items
       (one.noted ∙ ap (λ (w : ℕ). notes_by seed w first one.made) cut_even.lowest) two.noted
 
-  pub both_run : (sections : List Section) (new : OnBoth MountPass) (all : LinkedTold) → sections ≡ first ++ others
+  pub both_run : (sections : List Section) (new : OnBoth MountPass) (all : LinkedOutput) → sections ≡ first ++ others
       → new.even ≡ evens → new.odd ≡ odds → all.even.items ≡ told.even.items ++ more.even.items
       → all.odd.items ≡ told.odd.items ++ more.odd.items → all.notes.items ≡ told.notes.items ++ more.notes.items
       → HaveRun seed old sections new all
@@ -108,10 +108,10 @@ module _ (seed : List ℕ) (shared : OnBoth SharedView) (old lower upper lower' 
       (record {
         made = all_made;
         even_as_before = subst (λ p. IsAsBefore old.even p) (sym is_even_pass)
-            (as_before_both MOST_CALLS shared.even old.even lower.even upper.even lower'.even upper'.even first others
+            (as_before_both MAX_CALLS shared.even old.even lower.even upper.even lower'.even upper'.even first others
             cut_even one.even_as_before two.even_as_before);
         odd_as_before = subst (λ p. IsAsBefore old.odd p) (sym is_odd_pass)
-            (as_before_both (2 * MOST_CALLS) shared.odd old.odd lower.odd upper.odd lower'.odd upper'.odd first others
+            (as_before_both (2 * MAX_CALLS) shared.odd old.odd lower.odd upper.odd lower'.odd upper'.odd first others
             cut_odd one.odd_as_before two.odd_as_before);
         called = subst (λ p. HaveCalled seed old.even.who (first ++ others) all_made (calls_of p) (calls_of new.odd))
             (sym is_even_pass)

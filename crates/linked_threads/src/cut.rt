@@ -1,11 +1,11 @@
 //! Callers on both mounts, cut in two.
 
 ghost use Rattle.std.specs.Prelude.{◌≡◌, ◌*◌, ◌<◌, ◌++◌, length, IfOk};
-ghost use Rattle.fsc_commands.specs.declared.TheConstants.{MOST_CALLS};
+ghost use Rattle.fsc_commands.specs.declared.TheConstants.{MAX_CALLS};
 ghost use Rattle.script_runs.specs.Passes.{AreHalves, CanRun};
 
 use crate::mounts::{Callers, Passes, SharedMounts};
-use fsc_commands::MOST_CALLS;
+use fsc_commands::MAX_CALLS;
 use mount_shared::MountMachine;
 use script_runs::cut;
 use std::alloc::AllocError;
@@ -15,14 +15,14 @@ pub(crate) fn halve<'a, M: MountMachine, N: MountMachine>(
     shared: &SharedMounts<M, N>,
     callers: Callers<'a, M, N>,
 ) -> Result<(Callers<'a, M, N>, Callers<'a, M, N>), AllocError>
-    requires even { CanRun MOST_CALLS shared.now.even callers.passes.even callers.sections.now }
-    requires odd { CanRun (2 * MOST_CALLS) shared.now.odd callers.passes.odd callers.sections.now }
+    requires even { CanRun MAX_CALLS shared.now.even callers.passes.even callers.sections.now }
+    requires odd { CanRun (2 * MAX_CALLS) shared.now.odd callers.passes.odd callers.sections.now }
     requires several { 1 < length callers.sections.now }
     ensures whole { IfOk result (λ cut. callers.entry.sections.now
         ≡ cut.0.sections.now ++ cut.1.sections.now) }
-    ensures even { IfOk result (λ cut. AreHalves MOST_CALLS shared.now.even callers.entry.passes.even
+    ensures even { IfOk result (λ cut. AreHalves MAX_CALLS shared.now.even callers.entry.passes.even
         cut.0.passes.even cut.1.passes.even cut.0.sections.now cut.1.sections.now) }
-    ensures odd { IfOk result (λ cut. AreHalves (2 * MOST_CALLS) shared.now.odd callers.entry.passes.odd
+    ensures odd { IfOk result (λ cut. AreHalves (2 * MAX_CALLS) shared.now.odd callers.entry.passes.odd
         cut.0.passes.odd cut.1.passes.odd cut.0.sections.now cut.1.sections.now) }
 {
     let Callers {
@@ -30,8 +30,8 @@ pub(crate) fn halve<'a, M: MountMachine, N: MountMachine>(
         sections,
     } = callers;
     let (first, others) = sections.split_at(sections.len() / 2);
-    let even = cut(&shared.even, &mut passes.even, first, others, MOST_CALLS)?;
-    let odd = cut(&shared.odd, &mut passes.odd, first, others, 2 * MOST_CALLS)?;
+    let even = cut(&shared.even, &mut passes.even, first, others, MAX_CALLS)?;
+    let odd = cut(&shared.odd, &mut passes.odd, first, others, 2 * MAX_CALLS)?;
     let upper = Passes { even, odd };
     Ok((
         Callers {

@@ -5,7 +5,7 @@
 mod cut;
 mod mounts;
 mod one;
+mod output;
 mod threads;
-mod told;
 
 pub use threads::run_linked_in_threads;

@@ -4,11 +4,11 @@ ghost use Rattle.std.specs.Prelude.{◌<◌, [], length, IfOk};
 ghost use Rattle.script_lang.specs.Spelled.{IsSpelled};
 ghost use Rattle.linked_threads.specs.Threaded.{AreFirst, CanRunOnBoth, both};
 
-use fsc_commands::MOST_CALLS;
+use fsc_commands::MAX_CALLS;
 use linked_turns::Mounts;
 use mount_shared::MountMachine;
 use script_lang::{Script, Section};
-use script_runs::calls_needed;
+use script_runs::max_calls_of_sections;
 use std::alloc::{AllocError, Global};
 use turn_lock::{Pass, Shared};
 
@@ -42,18 +42,18 @@ pub(crate) fn share<M: MountMachine, N: MountMachine>(
 ) -> Result<(SharedMounts<M, N>, Passes<M, N>), AllocError>
     requires spelled { IsSpelled script.now }
     requires some { 0 < length script.now }
-    requires leads_even { M.leads [] mounts.even }
-    requires leads_odd { N.leads [] mounts.odd }
+    requires reaches_even { M.reaches [] mounts.even }
+    requires reaches_odd { N.reaches [] mounts.odd }
     ensures first { IfOk result (λ made.
         AreFirst (both made.0.even made.0.odd) (both made.1.even made.1.odd)) }
     ensures can_run { IfOk result (λ made. CanRunOnBoth (both made.0.even made.0.odd)
         (both made.1.even made.1.odd) script.now) }
 {
     let sections = script.as_slice();
-    let Some(calls) = calls_needed(sections, MOST_CALLS) else {
+    let Some(calls) = max_calls_of_sections(sections, MAX_CALLS) else {
         return Err(AllocError);
     };
-    let Some(odd_calls) = calls_needed(sections, 2 * MOST_CALLS) else {
+    let Some(odd_calls) = max_calls_of_sections(sections, 2 * MAX_CALLS) else {
         return Err(AllocError);
     };
     let numbers = sections.len() as u32;

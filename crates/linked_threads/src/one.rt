@@ -1,24 +1,24 @@
 //! One caller's section, on the mount of its number.
 
 ghost use Rattle.std.specs.Prelude.{◌≡◌, true, false, [], length, IfOk};
-ghost use Rattle.fsc_commands.specs.declared.TheConstants.{MOST_CALLS};
+ghost use Rattle.fsc_commands.specs.declared.TheConstants.{MAX_CALLS};
 ghost use Rattle.mount_links.specs.LinkCalls.{link_view};
-ghost use Rattle.mount_links.specs.ShownParts.{load_shown};
+ghost use Rattle.mount_links.specs.ShownParts.{logged_load};
 ghost use Rattle.mount_links.specs.Linked.{far_parts, own_parts};
-ghost use Rattle.script_runs.specs.Passes.{calls_needed};
+ghost use Rattle.script_runs.specs.Passes.{max_calls_of_sections};
 ghost use Rattle.linked_turns.specs.Parts.{is_even};
 ghost use Rattle.linked_threads.specs.Threaded.{CanRunOnBoth, HaveRun, both};
 
 use crate::mounts::{Callers, Passes, SharedMounts};
 use argon_kdf::Stretch;
-use fsc_commands::MOST_CALLS;
+use fsc_commands::MAX_CALLS;
 use fsc_outside::Gate;
 use fsc_session::{Ran, run_caller};
-use linked_turns::LinkedTold;
+use linked_turns::LinkedOutput;
 use mount_links::{LinkPort, LinkStep, split};
 use mount_shared::{MountMachine, SharedPort};
 use script_lang::Section;
-use script_runs::{RangedPort, calls_needed};
+use script_runs::{RangedPort, max_calls_of_sections};
 use std::alloc::{AllocError, Global};
 use std::sync::Wait;
 
@@ -37,7 +37,7 @@ pub(crate) fn run_one<R: Wait, G: Gate, S: Stretch, M: MountMachine, N: MountMac
     stretches: &S,
     callers: Callers<M, N>,
     seed: &[u8; 32],
-) -> Result<(Passes<M, N>, LinkedTold), AllocError>
+) -> Result<(Passes<M, N>, LinkedOutput), AllocError>
     requires ready { S.ready stretches.now }
     requires can_run { CanRunOnBoth (both shared.now.even shared.now.odd)
         (both callers.passes.even callers.passes.odd) callers.sections.now }
@@ -62,7 +62,7 @@ fn run_on_mount_0<R: Wait, G: Gate, S: Stretch, M: MountMachine, N: MountMachine
     stretches: &S,
     callers: Callers<M, N>,
     seed: &[u8; 32],
-) -> Result<(Passes<M, N>, LinkedTold), AllocError>
+) -> Result<(Passes<M, N>, LinkedOutput), AllocError>
     requires ready { S.ready stretches.now }
     requires can_run { CanRunOnBoth (both shared.now.even shared.now.odd)
         (both callers.passes.even callers.passes.odd) callers.sections.now }
@@ -80,7 +80,7 @@ fn run_on_mount_0<R: Wait, G: Gate, S: Stretch, M: MountMachine, N: MountMachine
     let even = port.back().back();
     // The clause `own` of `who` holds: its own entries are its caller's.
     let _caller = even.who();
-    let told = LinkedTold {
+    let told = LinkedOutput {
         even: ran.entries.into_vec(),
         odd: Vec::new(alloc),
         notes: ran.notes.into_vec(),
@@ -97,7 +97,7 @@ fn run_on_both<R: Wait, G: Gate, S: Stretch, M: MountMachine, N: MountMachine>(
     stretches: &S,
     callers: Callers<M, N>,
     seed: &[u8; 32],
-) -> Result<(Passes<M, N>, LinkedTold), AllocError>
+) -> Result<(Passes<M, N>, LinkedOutput), AllocError>
     requires ready { S.ready stretches.now }
     requires can_run { CanRunOnBoth (both shared.now.even shared.now.odd)
         (both callers.passes.even callers.passes.odd) callers.sections.now }
@@ -116,7 +116,7 @@ fn run_on_both<R: Wait, G: Gate, S: Stretch, M: MountMachine, N: MountMachine>(
     // The clause `own` of `who` holds: their own entries are their caller's.
     let _on_mount_1 = odd.who();
     let _on_mount_0 = even.who();
-    let told = told_on_both(alloc, ran, steps)?;
+    let told = output_on_both(alloc, ran, steps)?;
     Ok((Passes { even, odd }, told))
 }
 
@@ -131,9 +131,9 @@ fn port_on_both<'a, R: Wait, M: MountMachine, N: MountMachine>(
 ) -> Result<SharedLinks<'a, M, N, R>, AllocError>
     requires { CanRunOnBoth (both shared.now.even shared.now.odd) (both passes.even passes.odd) sections.now }
     ensures { IfOk result (λ port. port
-        ≡ link_view passes.odd passes.even (calls_needed MOST_CALLS sections.now) []) }
+        ≡ link_view passes.odd passes.even (max_calls_of_sections MAX_CALLS sections.now) []) }
 {
-    let Some(calls) = calls_needed(sections, MOST_CALLS) else {
+    let Some(calls) = max_calls_of_sections(sections, MAX_CALLS) else {
         return Err(AllocError);
     };
     let own = SharedPort::new(rt, &shared.odd, passes.odd);
@@ -142,13 +142,13 @@ fn port_on_both<'a, R: Wait, M: MountMachine, N: MountMachine>(
 }
 
 // The result of a caller on both mounts, by the step of each of its calls.
-fn told_on_both(alloc: Global, ran: Ran, steps: Vec<LinkStep>) -> Result<LinkedTold, AllocError>
+fn output_on_both(alloc: Global, ran: Ran, steps: Vec<LinkStep>) -> Result<LinkedOutput, AllocError>
     ensures even { IfOk result (λ told. told.even.items ≡ far_parts steps.items ran.entries) }
-    ensures odd { IfOk result (λ told. told.odd.items ≡ own_parts load_shown steps.items ran.entries) }
+    ensures odd { IfOk result (λ told. told.odd.items ≡ own_parts logged_load steps.items ran.entries) }
     ensures notes { IfOk result (λ told. told.notes.items ≡ ran.notes) }
 {
     let shown = split(alloc, ran.entries, steps)?;
-    Ok(LinkedTold {
+    Ok(LinkedOutput {
         even: shown.far.into_vec(),
         odd: shown.own.into_vec(),
         notes: ran.notes.into_vec(),

@@ -3,16 +3,16 @@
 ghost use Rattle.std.specs.Prelude.{◌≡◌, [], IfOk};
 ghost use Rattle.std.specs.Thread.{IsSync};
 ghost use Rattle.script_lang.specs.Spelled.{IsSpelled};
-ghost use Rattle.linked_threads.specs.LinkedThreads.{TellsLinkedCalls};
+ghost use Rattle.linked_threads.specs.LinkedThreads.{IsLinkedLogOfCalls};
 ghost use Rattle.linked_threads.specs.Threaded.{CanRunOnBoth, HaveRun, both};
 
 use crate::cut::halve;
 use crate::mounts::{Callers, Passes, SharedMounts, share};
 use crate::one::run_one;
-use crate::told::{append, nothing, put_in_order};
+use crate::output::{append, nothing, put_in_order};
 use argon_kdf::Stretch;
 use fsc_outside::Gate;
-use linked_turns::{LinkedTold, Mounts};
+use linked_turns::{LinkedOutput, Mounts};
 use mount_shared::MountMachine;
 use script_lang::Script;
 use script_runs::end;
@@ -41,12 +41,12 @@ pub fn run_linked_in_threads<
     gate: &G,
     stretches: &S,
     mounts: Mounts<M, N>,
-) -> Result<LinkedTold, AllocError>
+) -> Result<LinkedOutput, AllocError>
     requires spelled { IsSpelled script.now }
     requires ready { S.ready stretches.now }
-    requires leads_even { M.leads [] mounts.even }
-    requires leads_odd { N.leads [] mounts.odd }
-    ensures { IfOk result (λ told. TellsLinkedCalls M.lawful N.lawful seed.now script.now
+    requires reaches_even { M.reaches [] mounts.even }
+    requires reaches_odd { N.reaches [] mounts.odd }
+    ensures { IfOk result (λ told. IsLinkedLogOfCalls M.lawful N.lawful seed.now script.now
         told.even.items told.odd.items told.notes.items) }
 {
     let sections = script.as_slice();
@@ -63,9 +63,9 @@ pub fn run_linked_in_threads<
 }
 
 // A run without callers: nothing is shared, and no thread starts.
-fn run_nobody<M: MountMachine, N: MountMachine>(alloc: Global, mounts: Mounts<M, N>) -> LinkedTold
-    requires even { M.leads [] mounts.even }
-    requires odd { N.leads [] mounts.odd }
+fn run_nobody<M: MountMachine, N: MountMachine>(alloc: Global, mounts: Mounts<M, N>) -> LinkedOutput
+    requires even { M.reaches [] mounts.even }
+    requires odd { N.reaches [] mounts.odd }
     ensures none { (result.even.items ≡ []) × (result.odd.items ≡ []) × (result.notes.items ≡ []) }
     ensures lawful_even { M.lawful [] }
     ensures lawful_odd { N.lawful [] }
@@ -88,7 +88,7 @@ fn run_all<
     stretches: &S,
     callers: Callers<M, N>,
     seed: &[u8; 32],
-) -> Result<(Passes<M, N>, LinkedTold), AllocError>
+) -> Result<(Passes<M, N>, LinkedOutput), AllocError>
     requires ready { S.ready stretches.now }
     requires can_run { CanRunOnBoth (both shared.now.even shared.now.odd)
         (both callers.passes.even callers.passes.odd) callers.sections.now }
@@ -102,7 +102,7 @@ fn run_all<
     let (lower, upper) = halve(shared, callers)?;
     let (one, two) = join(
         rt,
-        || -> Result<(Passes<M, N>, LinkedTold), AllocError>
+        || -> Result<(Passes<M, N>, LinkedOutput), AllocError>
             requires { IsSync R.row × IsSync G.row × IsSync S.row × S.ready stretches.now
                 × CanRunOnBoth (both shared.now.even shared.now.odd)
                 (both lower.passes.even lower.passes.odd) lower.sections.now }
@@ -110,7 +110,7 @@ fn run_all<
                 (both lower.entry.passes.even lower.entry.passes.odd) lower.entry.sections.now
                 (both ran.0.even ran.0.odd) ran.1) }
         { run_all(rt, alloc, shared, gate, stretches, lower, seed) },
-        || -> Result<(Passes<M, N>, LinkedTold), AllocError>
+        || -> Result<(Passes<M, N>, LinkedOutput), AllocError>
             requires { IsSync R.row × IsSync G.row × IsSync S.row × S.ready stretches.now
                 × CanRunOnBoth (both shared.now.even shared.now.odd)
                 (both upper.passes.even upper.passes.odd) upper.sections.now }

@@ -1,7 +1,7 @@
 -- What the lines of calls contain, and the calls of a caller with the same lines.
 use Rattle.std.proofs.Common.{◌≡◌, ℕ, ◌+◌, Bool, true, false, cond, List, [], ◌∷◌, map, drop, get_or, refl, ap, ap₂, sym, ◌∙◌, subst}
 use Rattle.std.specs.Prelude.{◌==◌}
-use Rattle.call_history.specs.Entries.{by, entry, numbered}
+use Rattle.call_history.specs.Entries.{by, entry, entries_with_places}
 use Rattle.call_history.specs.Placed.{entries_of}
 use Rattle.mount_model.specs.declared.call.Call.{Call}
 use Rattle.mount_model.specs.declared.reply.Reply.{Reply}
@@ -46,7 +46,7 @@ same_call x y xs ys place who call reply rest =
     ∙ ap (λ (l : PlacedCalls). y ∷ l) rest
 
 -- a caller's lines in two histories with the same lines
-pub lines_by : (c k : ℕ) (g h : History) → map told g ≡ map told h → lines (by c (numbered k g)) ≡ lines (by c (numbered k h))
+pub lines_by : (c k : ℕ) (g h : History) → map told g ≡ map told h → lines (by c (entries_with_places k g)) ≡ lines (by c (entries_with_places k h))
 lines_by c k [] [] same = refl
 lines_by c k [] (f ∷ h) same = absurd (cc same)
 lines_by c k (e ∷ g) [] same = absurd (cc same)
@@ -54,8 +54,8 @@ lines_by c k (e ∷ g) (f ∷ h) same =
     let first : told e ≡ told f = ap (λ (l : List (ℕ × ℕ × List ℕ × Reply)). get_or l 0 (told e)) same in
     let who : e.who ≡ f.who = ap (λ (t : ℕ × ℕ × List ℕ × Reply). t.0) first in
     let rest = lines_by c (k + 1) g h (ap (λ (l : List (ℕ × ℕ × List ℕ × Reply)). drop 1 l) same) in
-    chosen (e.who == c) (by c (numbered (k + 1) g)) (by c (numbered (k + 1) h)) first rest
-    ∙ ap (λ (w : ℕ). lines (cond (w == c) ((k, f) ∷ by c (numbered (k + 1) h)) (by c (numbered (k + 1) h)))) who
+    chosen (e.who == c) (by c (entries_with_places (k + 1) g)) (by c (entries_with_places (k + 1) h)) first rest
+    ∙ ap (λ (w : ℕ). lines (cond (w == c) ((k, f) ∷ by c (entries_with_places (k + 1) h)) (by c (entries_with_places (k + 1) h)))) who
   where
     chosen : (b : Bool) (xs ys : PlacedCalls) → told e ≡ told f → lines xs ≡ lines ys → lines (cond b ((k, e) ∷ xs) xs) ≡ lines (cond b ((k, f) ∷ ys) ys)
     chosen true xs ys first same =

@@ -2,7 +2,7 @@
 -- next, and both histories determine what became of each.
 use Rattle.std.proofs.Common.{◌≡◌, ℕ, Bool, true, false, List, [], Option, Some, None, refl, ap, ap₂, sym, ◌∙◌, subst}
 use Rattle.std.specs.Prelude.{slice_get}
-use Rattle.call_history.specs.Entries.{by, entries_by, numbered}
+use Rattle.call_history.specs.Entries.{by, entries_by, entries_with_places}
 use Rattle.call_history.specs.Placed.{entries_of}
 use Rattle.call_history.proofs.Ordering.{merged_by_callers, merged-numbered}
 use Rattle.mount_model.specs.History.{History}
@@ -57,7 +57,7 @@ same_parts steps rest last false ls ks xs ys e f o p so to has had even odd =
 
 -- histories in which each caller has the same entries are the same
 same_history : (g h : History) → ((c : ℕ) → entries_by c g ≡ entries_by c h) → g ≡ h
-same_history g h each = sym (merged-numbered g) ∙ merged_by_callers h (numbered 0 g) each
+same_history g h each = sym (merged-numbered g) ∙ merged_by_callers h (entries_with_places 0 g) each
 
 pub one_meaning : LinkedLogsHaveOneMeaning
 one_meaning seed script g h so to same =

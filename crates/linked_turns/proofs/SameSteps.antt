@@ -6,7 +6,7 @@ use Rattle.mount_model.specs.declared.call.Call.{Call}
 use Rattle.mount_model.specs.declared.reply.Reply.{Reply}
 use Rattle.mount_model.specs.declared.reply.Reply.TheVariants.{Refused}
 use Rattle.mount_model.specs.declared.reply.Refusal.TheVariants.{NoMemory}
-use Rattle.mount_model.specs.History.{MountEntry, is_want_of_memory}
+use Rattle.mount_model.specs.History.{MountEntry, is_out_of_memory}
 use Rattle.mount_model.specs.Port.{PlacedCalls}
 use Rattle.fsc_commands.specs.Steps.{Steps, Reaches}
 use Rattle.fsc_commands.specs.Steps.Steps.{Done, Ask}
@@ -109,13 +109,13 @@ same_step (Store label) (Looked n d r) (Looked m e s) x y o p f q is so told =
 -- a record that was looked up is stored afterwards only if there was memory to look it up
 same_step (Store label) (Looked n d r) (NotMade m) x y o p f q is so told =
     let none = first_reply (look n d x r) (look m y.0 y (Refused NoMemory)) (line_of x ∷ o) p told.on_own in
-    let both : false ≡ true = sym is.2 ∙ ap is_want_of_memory none in absurd (cc both)
+    let both : false ≡ true = sym is.2 ∙ ap is_out_of_memory none in absurd (cc both)
 same_step (Store label) (NotMade n) Alone x y o p f q is so told = absurd so
 same_step (Store label) (NotMade n) (Followed m s v) x y o p f q is so told =
     absurd (not_a_link label s (Refused NoMemory) so.1 refl (sym (first_reply (look n x.0 x (Refused NoMemory)) (look m y.0 y s) o p told.on_own)))
 same_step (Store label) (NotMade n) (Looked m e s) x y o p f q is so told =
     let none = first_reply (look n x.0 x (Refused NoMemory)) (look m e y s) o (line_of y ∷ p) told.on_own in
-    let both : false ≡ true = sym so.2 ∙ ap is_want_of_memory (sym none) in absurd (cc both)
+    let both : false ≡ true = sym so.2 ∙ ap is_out_of_memory (sym none) in absurd (cc both)
 same_step (Store label) (NotMade n) (NotMade m) x y o p f q is so told =
     let one = alike (look n x.0 x (Refused NoMemory)) (look m y.0 y (Refused NoMemory)) o p told.on_own in record {
       step = ap NotMade (is.0 ∙ sym so.0);

@@ -13,7 +13,7 @@ use Rattle.mount_model.specs.declared.reply.Refusal.TheVariants as refusal
 use Rattle.mount_model.specs.declared.reply.Refusal.TheVariants.{NoMemory}
 use Rattle.mount_model.specs.PlainMount.{PlainMount}
 use Rattle.mount_model.specs.Answer.{answer_of}
-use Rattle.mount_model.specs.History.{History, MountEntry, IsLegalFrom, NeverWantsMemory, mount_left, is_want_of_memory}
+use Rattle.mount_model.specs.History.{History, MountEntry, IsLegalFrom, NeverOutOfMemory, mount_after_entry, is_out_of_memory}
 use Rattle.mount_model.specs.Port.{PlacedCalls}
 use Rattle.mount_model.proofs.StepLemmas.{answered-step}
 use Rattle.script_words.specs.Records.{record_of, record_name}
@@ -27,20 +27,20 @@ use Rattle.mount_links.specs.declared.asked.Asked.TheVariants.{Load, Store, Othe
 use Rattle.mount_links.specs.declared.step.LinkStep.{LinkStep}
 use Rattle.mount_links.specs.declared.step.LinkStep.TheVariants.{Alone, Followed, Looked, NotMade}
 use Rattle.mount_links.specs.Linked.{own_part, far_part}
-use Rattle.mount_links.specs.LinkSteps.{asked_of, load_asked, store_asked, is_link, IsStepOf}
+use Rattle.mount_links.specs.LinkSteps.{asked_of, asked_of_load, asked_of_store, is_link, IsStepOf}
 use Rattle.mount_links.specs.LinkCalls.{load_call}
 use Rattle.mount_links.proofs.NameLemmas.{asked_back}
 use Rattle.linked_turns.specs.Parts.{is_even, IsLinkedStep, AreLinked, part_0, part_1, parts_0, parts_1}
-use Rattle.linked_turns.specs.LinkedSerial.{TwoHistories, histories, linked_played, calls_played}
+use Rattle.linked_turns.specs.LinkedSerial.{TwoHistories, histories, linked_histories_of, serial_calls_of}
 use Rattle.linked_turns.specs.LinkedAnswers.{linked_by, linked_answer}
-use Rattle.linked_turns.specs.TwoMounts.{TwoMounts, two, LinkedAnswer, behind, on_mount_0, on_mount_1}
+use Rattle.linked_turns.specs.TwoMounts.{TwoMounts, two, LinkedAnswer, after_call_on_1, on_mount_0, on_mount_1}
 
 -- ---- an answered entry
 
-abbrev IsGiven : MountEntry → Type 0
-IsGiven e = e.reply ≢ Refused NoMemory
+abbrev IsAnswerOf : MountEntry → Type 0
+IsAnswerOf e = e.reply ≢ Refused NoMemory
 
-given_reply : (reply : Reply) → reply ≢ Refused NoMemory → is_want_of_memory reply ≡ false
+given_reply : (reply : Reply) → reply ≢ Refused NoMemory → is_out_of_memory reply ≡ false
 given_reply (reply.Added id) h = refl
 given_reply (reply.Removed others busy) h = refl
 given_reply (reply.Status state by_self users) h = refl
@@ -78,7 +78,7 @@ left_when_given m after want h = rw h refl
 -- what holds of a history that goes on from a mount and in which no call is out of memory
 pub record GoesOn (m : PlainMount) (h : History) : Type 0 where
   pub legal : IsLegalFrom m h
-  pub never : NeverWantsMemory h
+  pub never : NeverOutOfMemory h
 
 -- its first entry has the mount's answer, and it goes on from the mount that this leaves
 record First (m : PlainMount) (e : MountEntry) (es : History) : Type 0 where
@@ -87,24 +87,24 @@ record First (m : PlainMount) (e : MountEntry) (es : History) : Type 0 where
 
 first_of : (m : PlainMount) (e : MountEntry) (es : History) → GoesOn m (e ∷ es) → First m e es
 first_of m e es on =
-    let given = All-head IsGiven e es on.never in
-    let left : mount_left m e ≡ (answer_of m e.who e.call).mount = left_when_given m _ _ (given_reply e.reply given) in
+    let given = All-head IsAnswerOf e es on.never in
+    let left : mount_after_entry m e ≡ (answer_of m e.who e.call).mount = left_when_given m _ _ (given_reply e.reply given) in
     record {
       same = answered-step m e _ on.legal.0 given;
       rest = record {
         legal = subst (λ n. IsLegalFrom n es) left on.legal.1;
-        never = All-tail IsGiven e es on.never;
+        never = All-tail IsAnswerOf e es on.never;
       };
     }
 
 -- ---- what a call asks for
 
-not_loaded : (o : Option Record) (label : List ℕ) → store_asked o ≡ Load label → ⊥
+not_loaded : (o : Option Record) (label : List ℕ) → asked_of_store o ≡ Load label → ⊥
 not_loaded (Some (Protector x)) label e = cc
 not_loaded (Some (Policy x)) label e = cc
 not_loaded None label e = cc
 
-load_back : (o : Option Record) (name label : List ℕ) → record_of name ≡ o → load_asked o ≡ Load label → name ≡ record_name (Protector label)
+load_back : (o : Option Record) (name label : List ℕ) → record_of name ≡ o → asked_of_load o ≡ Load label → name ≡ record_name (Protector label)
 load_back (Some it) name label is e = asked_back name it label is e
 load_back None name label is e = absurd (cc e)
 
@@ -164,7 +164,7 @@ answered_1 m e even odd on_even on_odd =
 behind_first : (m : TwoMounts) (look : MountEntry) (next : TwoMounts → LinkedAnswer) (given : Reply) (even_made odd_made even odd : History)
     → GoesOn m.odd (look ∷ odd_made ++ odd) → look.reply ≡ (answer_of m.odd look.who look.call).reply
     → Answered (next (two m.even (answer_of m.odd look.who look.call).mount)) given even_made odd_made even odd
-    → Answered (behind m look.who look.call next) given even_made (look ∷ odd_made) even odd
+    → Answered (after_call_on_1 m look.who look.call next) given even_made (look ∷ odd_made) even odd
 behind_first m look next given even_made odd_made even odd on same after = record {
   reply = after.reply;
   on_even = after.on_even;
@@ -196,7 +196,7 @@ odd_call m (Load label) (Followed named reply there) x even odd asks is on_even 
     let first = first_of m.odd mine odd (subst (λ (e : MountEntry). GoesOn m.odd (e ∷ odd)) look_is on_odd) in
     let here : is_link label (answer_of m.odd x.1.who x.1.call).reply ≡ true = ap (is_link label) (sym first.same) ∙ is.1 in
     rw here
-    (subst (λ (e : MountEntry). Answered (behind m x.1.who x.1.call (λ n. on_mount_0 n x.1.who x.1.call)) x.1.reply (x.1 ∷ []) (e ∷ []) even odd) (sym look_is)
+    (subst (λ (e : MountEntry). Answered (after_call_on_1 m x.1.who x.1.call (λ n. on_mount_0 n x.1.who x.1.call)) x.1.reply (x.1 ∷ []) (e ∷ []) even odd) (sym look_is)
     (behind_first m mine (λ n. on_mount_0 n x.1.who x.1.call) x.1.reply (x.1 ∷ []) [] even odd
     (subst (λ (e : MountEntry). GoesOn m.odd (e ∷ odd)) look_is on_odd) first.same
     (answered_0 (two m.even (answer_of m.odd x.1.who x.1.call).mount) x.1 even odd on_even first.rest)))
@@ -214,7 +214,7 @@ odd_call m (Store label) (Followed named reply there) x even odd asks is on_even
         let first = first_of m.odd look odd mine in
         let here : is_link l (answer_of m.odd x.1.who (load_call l x.1.call)).reply ≡ true = ap (is_link l) (sym first.same) ∙ link in
         rw here
-        (subst (λ (f : MountEntry). Answered (behind m x.1.who (load_call l x.1.call) (λ n. on_mount_0 n x.1.who x.1.call)) x.1.reply (x.1 ∷ []) (f ∷ []) even odd) (sym look_is)
+        (subst (λ (f : MountEntry). Answered (after_call_on_1 m x.1.who (load_call l x.1.call) (λ n. on_mount_0 n x.1.who x.1.call)) x.1.reply (x.1 ∷ []) (f ∷ []) even odd) (sym look_is)
         (behind_first m look (λ n. on_mount_0 n x.1.who x.1.call) x.1.reply (x.1 ∷ []) [] even odd mine first.same
         (answered_0 (two m.even (answer_of m.odd x.1.who (load_call l x.1.call)).mount) x.1 even odd on_even first.rest)))
 odd_call m (Store label) (Looked named place reply) x even odd asks is on_even on_odd = by_label label named (sym is.0) is.1 on_odd
@@ -228,11 +228,11 @@ odd_call m (Store label) (Looked named place reply) x even odd asks is on_even o
         let first = first_of m.odd look (x.1 ∷ odd) mine in
         let here : is_link l (answer_of m.odd x.1.who (load_call l x.1.call)).reply ≡ false = ap (is_link l) (sym first.same) ∙ link in
         rw here
-        (subst (λ (f : MountEntry). Answered (behind m x.1.who (load_call l x.1.call) (λ n. on_mount_1 n x.1.who x.1.call)) x.1.reply [] (f ∷ x.1 ∷ []) even odd) (sym look_is)
+        (subst (λ (f : MountEntry). Answered (after_call_on_1 m x.1.who (load_call l x.1.call) (λ n. on_mount_1 n x.1.who x.1.call)) x.1.reply [] (f ∷ x.1 ∷ []) even odd) (sym look_is)
         (behind_first m look (λ n. on_mount_1 n x.1.who x.1.call) x.1.reply [] (x.1 ∷ []) even odd mine first.same
         (answered_1 (two m.even (answer_of m.odd x.1.who (load_call l x.1.call)).mount) x.1 even odd on_even first.rest)))
 odd_call m (Store label) (NotMade named) x even odd asks is on_even on_odd =
-    absurd (All-head IsGiven _ odd on_odd.never refl)
+    absurd (All-head IsAnswerOf _ odd on_odd.never refl)
 
 -- of any caller
 one_call : (m : TwoMounts) (b : Bool) (step : LinkStep) (x : ℕ × MountEntry) (even odd : History) → is_even x.1.who ≡ b → IsLinkedStep b step x
@@ -245,8 +245,8 @@ one_call m false step x even odd b is on_even on_odd = odd_call m (asked_of x.1.
 -- of all of them, one after another
 pub linked_from : {A : Type 0} (m : TwoMounts) (steps : Steps A) (told : PlacedCalls) (ls : List LinkStep) (value : A) → Reaches steps (entries_of told) (Done value)
     → AreLinked ls told → GoesOn m.even (entries_of (parts_0 ls told)) → GoesOn m.odd (entries_of (parts_1 ls told))
-    → histories (entries_of (parts_0 ls told)) (entries_of (parts_1 ls told)) ≡ linked_played m steps
-linked_from m steps [] [] value so linked on_even on_odd = sym (ap (linked_played m) so)
+    → histories (entries_of (parts_0 ls told)) (entries_of (parts_1 ls told)) ≡ linked_histories_of m steps
+linked_from m steps [] [] value so linked on_even on_odd = sym (ap (linked_histories_of m) so)
 linked_from m steps [] (l ∷ ls) value so linked on_even on_odd = absurd linked
 linked_from m (Done other) (x ∷ xs) ls value so linked on_even on_odd = absurd so
 linked_from m (Ask who call next) (x ∷ xs) [] value so linked on_even on_odd = absurd linked
@@ -262,15 +262,15 @@ linked_from m (Ask who call next) (x ∷ xs) (l ∷ ls) value so linked on_even 
     ap₂ histories
     (even_cut ∙ ap₂ (λ (l r : History). l ++ r) one.on_even (ap (λ (h : TwoHistories). h.even) rest))
     (odd_cut ∙ ap₂ (λ (l r : History). l ++ r) one.on_odd (ap (λ (h : TwoHistories). h.odd) rest))
-    ∙ ap (λ (r : Reply). histories (answer.even ++ (linked_played answer.left (next r)).even) (answer.odd ++ (linked_played answer.left (next r)).odd)) one.reply
-    ∙ ap (λ (w : ℕ). linked_played m (Ask w x.1.call next)) so.0
-    ∙ ap (λ (c : Call). linked_played m (Ask who c next)) so.1
+    ∙ ap (λ (r : Reply). histories (answer.even ++ (linked_histories_of answer.left (next r)).even) (answer.odd ++ (linked_histories_of answer.left (next r)).odd)) one.reply
+    ∙ ap (λ (w : ℕ). linked_histories_of m (Ask w x.1.call next)) so.0
+    ∙ ap (λ (c : Call). linked_histories_of m (Ask who c next)) so.1
 
 -- and the callers had these replies
 pub calls_from : {A : Type 0} (m : TwoMounts) (steps : Steps A) (told : PlacedCalls) (ls : List LinkStep) (value : A) → Reaches steps (entries_of told) (Done value)
     → AreLinked ls told → GoesOn m.even (entries_of (parts_0 ls told)) → GoesOn m.odd (entries_of (parts_1 ls told))
-    → entries_of told ≡ calls_played m steps
-calls_from m steps [] [] value so linked on_even on_odd = sym (ap (calls_played m) so)
+    → entries_of told ≡ serial_calls_of m steps
+calls_from m steps [] [] value so linked on_even on_odd = sym (ap (serial_calls_of m) so)
 calls_from m steps [] (l ∷ ls) value so linked on_even on_odd = absurd linked
 calls_from m (Done other) (x ∷ xs) ls value so linked on_even on_odd = absurd so
 calls_from m (Ask who call next) (x ∷ xs) [] value so linked on_even on_odd = absurd linked
@@ -283,6 +283,6 @@ calls_from m (Ask who call next) (x ∷ xs) (l ∷ ls) value so linked on_even o
     (subst (GoesOn m.odd) (entries_of-append (part_1 b l x) (parts_1 ls xs)) on_odd) in
     let rest = calls_from answer.left (next x.1.reply) xs ls value so.2 linked.1 one.even_on one.odd_on in
     ap (λ (l : History). x.1 ∷ l) rest
-    ∙ ap (λ (r : Reply). entry x.1.who x.1.call r ∷ calls_played answer.left (next r)) one.reply
-    ∙ ap (λ (w : ℕ). calls_played m (Ask w x.1.call next)) so.0
-    ∙ ap (λ (c : Call). calls_played m (Ask who c next)) so.1
+    ∙ ap (λ (r : Reply). entry x.1.who x.1.call r ∷ serial_calls_of answer.left (next r)) one.reply
+    ∙ ap (λ (w : ℕ). serial_calls_of m (Ask w x.1.call next)) so.0
+    ∙ ap (λ (c : Call). serial_calls_of m (Ask who c next)) so.1

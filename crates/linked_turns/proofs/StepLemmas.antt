@@ -6,19 +6,19 @@ use Rattle.call_history.specs.Entries.{by}
 use Rattle.call_history.proofs.Placing.{by-cons_own, by-cons_other}
 use Rattle.mount_model.specs.History.{History, MountEntry}
 use Rattle.mount_model.specs.Port.{PlacedCalls}
-use Rattle.mount_shared.specs.SerialCalls.{SerialView, SerialCame, serial_view}
+use Rattle.mount_shared.specs.SerialCalls.{SerialView, SerialAfterCalls, serial_view}
 use Rattle.reply_text.specs.Ranges.{EntryIsInRange}
-use Rattle.fsc_session.specs.Running.{Stepped}
+use Rattle.fsc_session.specs.Running.{RunnerStep}
 use Rattle.mount_links.specs.declared.step.LinkStep.{LinkStep}
 use Rattle.mount_links.specs.declared.step.LinkStep.TheVariants.{Alone, Followed, Looked, NotMade}
 use Rattle.mount_links.specs.Linked.{own_part, own_parts, far_part, far_parts}
-use Rattle.mount_links.specs.LinkCalls.{AreSteps, LinkCame, LinkView, link_view, load_call}
+use Rattle.mount_links.specs.LinkCalls.{AreSteps, LinkAfterCalls, LinkView, link_view, load_call}
 use Rattle.linked_turns.specs.declared.runners.LinkedRunner.{LinkedRunner}
 use Rattle.linked_turns.specs.Parts.{AreLinked, HasParts, IsLinkedStep, is_even, part_0, part_1, parts_0, parts_1}
-use Rattle.script_runs.specs.InRange.{RangedCame}
+use Rattle.script_runs.specs.InRange.{RangedAfterCalls}
 use Rattle.script_runs.specs.MountPlaces.{At, Goes, at}
 use Rattle.script_runs.proofs.RoundLemmas.{goes_by, taken_by}
-use Rattle.linked_turns.specs.Turns.{TurnMade}
+use Rattle.linked_turns.specs.Turns.{LinkedTurnOf}
 
 -- ---- whose calls these are
 
@@ -96,26 +96,26 @@ of_odd c (step ∷ steps) (x ∷ xs) odd own are =
 
 -- ---- what they do to the mounts
 
-goes_nowhere : {M : Type 0} (leads : History → M → Type 0) (caller : ℕ) (mount : At M) → Goes leads caller mount [] mount
-goes_nowhere leads caller mount = record {
+goes_nowhere : {M : Type 0} (reaches : History → M → Type 0) (caller : ℕ) (mount : At M) → Goes reaches caller mount [] mount
+goes_nowhere reaches caller mount = record {
   placed = refl;
   given = omega arith;
   own = refl;
-  led = λ history so. subst (λ h. leads h mount.machine) (sym (append-nil history)) so;
+  reached_by = λ history so. subst (λ h. reaches h mount.machine) (sym (append-nil history)) so;
 }
 
-module _ {M N : Type 0} (leads_0 : History → M → Type 0) (leads_1 : History → N → Type 0) where
+module _ {M N : Type 0} (reaches_0 : History → M → Type 0) (reaches_1 : History → N → Type 0) where
   pub even_turn : (seed : List ℕ) (machine : M) (places left : ℕ) (odd : At N) (old new : LinkedRunner) (port port' : SerialView M) (machine' : M) (places' : ℕ)
       (left' before_left : ℕ) (more : Bool) → is_even old.runner.caller ≡ true → port ≡ serial_view machine places old.runner.caller left
       → machine' ≡ port'.machine → places' ≡ port'.places → new.steps.items ≡ old.steps.items
-      → Stepped (RangedCame (SerialCame leads_0) port) port' left' before_left seed more old.runner new.runner
-      → TurnMade leads_0 leads_1 seed (at machine places) odd old (at machine' places') odd new
+      → RunnerStep (RangedAfterCalls (SerialAfterCalls reaches_0) port) port' left' before_left seed more old.runner new.runner
+      → LinkedTurnOf reaches_0 reaches_1 seed (at machine places) odd old (at machine' places') odd new
   even_turn seed machine places left odd old new port port' machine' places' left' before_left more even is one two kept stepped =
-      let goes = goes_by leads_0 old.runner.caller left (at machine places) stepped.made port' (at machine' places') one two
-      (subst (λ p. SerialCame leads_0 p stepped.made port') is stepped.came_by.came_by) in
+      let goes = goes_by reaches_0 old.runner.caller left (at machine places) stepped.made port' (at machine' places') one two
+      (subst (λ p. SerialAfterCalls reaches_0 p stepped.made port') is stepped.reached_by_call.reached_by_call) in
       let all = of_even old.runner.caller stepped.made even goes.own in
       record {
-        taken = taken_by (RangedCame (SerialCame leads_0) port) port' left' before_left seed more old.runner new.runner stepped goes.own;
+        taken = taken_by (RangedAfterCalls (SerialAfterCalls reaches_0) port) port' left' before_left seed more old.runner new.runner stepped goes.own;
         all = alone stepped.made;
         linked = all.linked;
         even_is = all.even_is;
@@ -125,8 +125,8 @@ module _ {M N : Type 0} (leads_0 : History → M → Type 0) (leads_1 : History 
         odd = [];
         steps = [];
         even_goes = goes;
-        odd_goes = goes_nowhere leads_1 old.runner.caller odd;
-        even_ranged = stepped.came_by.ranged;
+        odd_goes = goes_nowhere reaches_1 old.runner.caller odd;
+        even_ranged = stepped.reached_by_call.ranged;
         odd_ranged = All-nil EntryIsInRange;
         kept = kept ∙ sym (append-nil old.steps.items);
         parts = subst (λ b. HasParts b [] stepped.made stepped.made []) (sym even) (refl, refl);
@@ -138,33 +138,33 @@ module _ {M N : Type 0} (leads_0 : History → M → Type 0) (leads_1 : History 
       → port ≡ link_view (serial_view odd.machine odd.places old.runner.caller own_left) (serial_view even.machine even.places old.runner.caller far_left) left []
       → odd'.machine ≡ port'.own.machine → odd'.places ≡ port'.own.places → even'.machine ≡ port'.far.machine → even'.places ≡ port'.far.places
       → new.steps.items ≡ old.steps.items ++ port'.steps
-      → Stepped (LinkCame (RangedCame (SerialCame leads_1)) (RangedCame (SerialCame leads_0)) port) port' left' before_left seed more
+      → RunnerStep (LinkAfterCalls (RangedAfterCalls (SerialAfterCalls reaches_1)) (RangedAfterCalls (SerialAfterCalls reaches_0)) port) port' left' before_left seed more
       old.runner new.runner
-      → TurnMade leads_0 leads_1 seed even odd old even' odd' new
+      → LinkedTurnOf reaches_0 reaches_1 seed even odd old even' odd' new
   odd_turn seed even odd own_left far_left left old new port port' even' odd' left' before_left more is_odd is one two three four kept stepped =
-      let came = subst (λ p. LinkCame (RangedCame (SerialCame leads_1)) (RangedCame (SerialCame leads_0)) p stepped.made port') is stepped.came_by in
-      let own_goes = goes_by leads_1 old.runner.caller own_left odd (own_parts load_call came.steps stepped.made) port'.own odd'
-      one two came.on_own.came_by in
-      let own = own_tells old.runner.caller came.steps stepped.made came.are_steps own_goes.own in
-      let all = of_odd old.runner.caller came.steps stepped.made is_odd own came.are_steps in
+      let after_calls = subst (λ p. LinkAfterCalls (RangedAfterCalls (SerialAfterCalls reaches_1)) (RangedAfterCalls (SerialAfterCalls reaches_0)) p stepped.made port') is stepped.reached_by_call in
+      let own_goes = goes_by reaches_1 old.runner.caller own_left odd (own_parts load_call after_calls.steps stepped.made) port'.own odd'
+      one two after_calls.on_own.reached_by_call in
+      let own = own_tells old.runner.caller after_calls.steps stepped.made after_calls.are_steps own_goes.own in
+      let all = of_odd old.runner.caller after_calls.steps stepped.made is_odd own after_calls.are_steps in
       record {
-        taken = taken_by (LinkCame (RangedCame (SerialCame leads_1)) (RangedCame (SerialCame leads_0)) port) port' left' before_left seed more
+        taken = taken_by (LinkAfterCalls (RangedAfterCalls (SerialAfterCalls reaches_1)) (RangedAfterCalls (SerialAfterCalls reaches_0)) port) port' left' before_left seed more
             old.runner new.runner stepped own;
-        all = came.steps;
+        all = after_calls.steps;
         linked = all.linked;
         even_is = all.even_is;
         odd_is = all.odd_is;
         made = stepped.made;
-        even = far_parts came.steps stepped.made;
-        odd = own_parts load_call came.steps stepped.made;
-        steps = came.steps;
-        even_goes = goes_by leads_0 old.runner.caller far_left even (far_parts came.steps stepped.made) port'.far even'
-            three four came.on_far.came_by;
+        even = far_parts after_calls.steps stepped.made;
+        odd = own_parts load_call after_calls.steps stepped.made;
+        steps = after_calls.steps;
+        even_goes = goes_by reaches_0 old.runner.caller far_left even (far_parts after_calls.steps stepped.made) port'.far even'
+            three four after_calls.on_far.reached_by_call;
         odd_goes = own_goes;
-        even_ranged = came.on_far.ranged;
-        odd_ranged = came.on_own.ranged;
-        kept = kept ∙ ap (λ (l : List LinkStep). old.steps.items ++ l) came.kept;
-        parts = subst (λ b. HasParts b came.steps stepped.made (far_parts came.steps stepped.made) (own_parts load_call came.steps stepped.made)) (sym is_odd) (came.are_steps, refl, refl);
+        even_ranged = after_calls.on_far.ranged;
+        odd_ranged = after_calls.on_own.ranged;
+        kept = kept ∙ ap (λ (l : List LinkStep). old.steps.items ++ l) after_calls.kept;
+        parts = subst (λ b. HasParts b after_calls.steps stepped.made (far_parts after_calls.steps stepped.made) (own_parts load_call after_calls.steps stepped.made)) (sym is_odd) (after_calls.are_steps, refl, refl);
       }
 
 -- ---- what follows from a call's clauses if it had memory

@@ -21,7 +21,7 @@ use Rattle.script_runs.proofs.TurnLemmas.{each_set, other_behind, own_behind, pa
 use Rattle.linked_turns.specs.declared.runners.LinkedRunner.{LinkedRunner}
 use Rattle.linked_turns.specs.Callers.{runners_of}
 use Rattle.linked_turns.specs.Parts.{AreLinked, HasParts, is_even, part_0, part_1, parts_0, parts_1}
-use Rattle.linked_turns.specs.Turns.{Rotating, TurnMade, sections_of}
+use Rattle.linked_turns.specs.Turns.{Rotating, LinkedTurnOf, sections_of}
 
 -- ---- the runners
 
@@ -86,15 +86,15 @@ parts_1-append (a ∷ s) t (x ∷ e) f p =
 
 -- ---- a turn
 
-module _ {M N : Type 0} (leads_0 : History → M → Type 0) (leads_1 : History → N → Type 0)
+module _ {M N : Type 0} (reaches_0 : History → M → Type 0) (reaches_1 : History → N → Type 0)
     (seed : List ℕ) (script : List Section) (whole : Steps (List Waiting)) where
   pub goes_on : (last : List Waiting → Steps (List Waiting)) (n i : ℕ) (callers : List LinkedRunner)
       (old new : LinkedRunner) (even_mount : At M) (odd_mount : At N) (even_mount' : At M) (odd_mount' : At N) → slice_get callers i ≡ Some old
-      → Rotating leads_0 leads_1 seed script whole
+      → Rotating reaches_0 reaches_1 seed script whole
       (round_steps seed n i (map state_of (take i (runners_of callers))) (map state_of (drop i (runners_of callers))) last)
       (turns_in n i) callers even_mount odd_mount
-      → TurnMade leads_0 leads_1 seed even_mount odd_mount old even_mount' odd_mount' new
-      → Rotating leads_0 leads_1 seed script whole
+      → LinkedTurnOf reaches_0 reaches_1 seed even_mount odd_mount old even_mount' odd_mount' new
+      → Rotating reaches_0 reaches_1 seed script whole
       (round_steps seed n (i + 1) (map state_of (take (i + 1) (runners_of (set callers i new))))
       (map state_of (drop (i + 1) (runners_of (set callers i new)))) last)
       (turns_in n (i + 1)) (set callers i new) even_mount' odd_mount'
@@ -113,9 +113,9 @@ module _ {M N : Type 0} (leads_0 : History → M → Type 0) (leads_1 : History 
         told = told;
         even = even;
         odd = odd;
-        even_stands = stands_on leads_0 old.runner.caller before.even turn.even even_mount even_mount'
+        even_stands = stands_on reaches_0 old.runner.caller before.even turn.even even_mount even_mount'
             before.even_stands turn.even_goes;
-        odd_stands = stands_on leads_1 old.runner.caller before.odd turn.odd odd_mount odd_mount'
+        odd_stands = stands_on reaches_1 old.runner.caller before.odd turn.odd odd_mount odd_mount'
             before.odd_stands turn.odd_goes;
         even_ranged = are_in_range-append before.even turn.even before.even_ranged turn.even_ranged;
         odd_ranged = are_in_range-append before.odd turn.odd before.odd_ranged turn.odd_ranged;
@@ -156,8 +156,8 @@ module _ {M N : Type 0} (leads_0 : History → M → Type 0) (leads_1 : History 
       (even_mount : At M) (odd_mount : At N)
       → ((told : PlacedCalls) → Rotates seed script whole rest turns (runners_of callers) told
       → Rotates seed script whole rest' turns' (runners_of callers) told)
-      → Rotating leads_0 leads_1 seed script whole rest turns callers even_mount odd_mount
-      → Rotating leads_0 leads_1 seed script whole rest' turns' callers even_mount odd_mount
+      → Rotating reaches_0 reaches_1 seed script whole rest turns callers even_mount odd_mount
+      → Rotating reaches_0 reaches_1 seed script whole rest' turns' callers even_mount odd_mount
   retold rest rest' turns turns' callers even_mount odd_mount on r = record {
     told = r.told;
     even = r.even;

@@ -1,12 +1,12 @@
 -- What a run of a script on two mounts is whose callers take turns.
 use Rattle.std.specs.Prelude.{◌≡◌, ◌<◌, ◌^◌, ℕ, List, length, slice_get, All}
-use Rattle.call_history.specs.Entries.{by, entries_by, numbered}
+use Rattle.call_history.specs.Entries.{by, entries_by, entries_with_places}
 use Rattle.call_history.specs.Placed.{entries_of}
-use Rattle.mount_model.specs.History.{History, IsLegal, NeverWantsMemory}
+use Rattle.mount_model.specs.History.{History, IsLegal, NeverOutOfMemory}
 use Rattle.mount_model.specs.Port.{PlacedCalls}
 use Rattle.script_lang.specs.declared.commands.Section.{Section}
 use Rattle.reply_text.specs.Ranges.{EntryIsInRange}
-use Rattle.reply_text.specs.Shown.{PlacedShown, shown_history}
+use Rattle.reply_text.specs.Logged.{PlacedLogged, logged_history}
 use Rattle.reply_text.specs.declared.notes.Note.{Note}
 use Rattle.fsc_commands.specs.Steps.{Reaches}
 use Rattle.fsc_commands.specs.Steps.Steps.{Done}
@@ -47,20 +47,20 @@ pub record IsLinkedRun (lawful_0 lawful_1 : History → Type 0) (seed : List ℕ
   pub order : (after : List Waiting) × Reaches (rotation_steps seed script) (entries_of told) (Done after)
   pub steps : List LinkStep
   pub linked : AreLinked steps told
-  pub even_is : numbered 0 even ≡ parts_0 steps told
-  pub odd_is : numbered 0 odd ≡ parts_1 steps told
-  pub serial : IsLegal even → IsLegal odd → NeverWantsMemory even → NeverWantsMemory odd
+  pub even_is : entries_with_places 0 even ≡ parts_0 steps told
+  pub odd_is : entries_with_places 0 odd ≡ parts_1 steps told
+  pub serial : IsLegal even → IsLegal odd → NeverOutOfMemory even → NeverOutOfMemory odd
       → histories even odd ≡ linked_histories seed script
-  pub serial_calls : IsLegal even → IsLegal odd → NeverWantsMemory even → NeverWantsMemory odd
+  pub serial_calls : IsLegal even → IsLegal odd → NeverOutOfMemory even → NeverOutOfMemory odd
       → entries_of told ≡ linked_calls seed script
 
 -- the entries are the shown entries of the histories of such a run, each in order of place; and these are
 -- its notes
-pub record TellsLinkedRun (lawful_0 lawful_1 : History → Type 0) (seed : List ℕ) (script : List Section)
-    (even_shown odd_shown : PlacedShown) (notes : List Note) : Type 0 where
+pub record IsLinkedLogOf (lawful_0 lawful_1 : History → Type 0) (seed : List ℕ) (script : List Section)
+    (even_logged_calls odd_logged_calls : PlacedLogged) (notes : List Note) : Type 0 where
   pub even : History
   pub odd : History
   pub run : IsLinkedRun lawful_0 lawful_1 seed script even odd
-  pub even_in_place : even_shown ≡ numbered 0 (shown_history even)
-  pub odd_in_place : odd_shown ≡ numbered 0 (shown_history odd)
+  pub even_in_place : even_logged_calls ≡ entries_with_places 0 (logged_history even)
+  pub odd_in_place : odd_logged_calls ≡ entries_with_places 0 (logged_history odd)
   pub noted : notes ≡ notes_by seed 0 script run.told

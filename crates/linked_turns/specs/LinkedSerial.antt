@@ -19,24 +19,24 @@ abbrev pub histories : History → History → TwoHistories
 histories even odd = record { even = even; odd = odd }
 
 -- each call answered by the mounts that the calls before it leave
-abbrev pub linked_played : {A : Type 0} → TwoMounts → Steps A → TwoHistories
-linked_played m (Done value) = histories [] []
-linked_played m (Ask who call next) =
+abbrev pub linked_histories_of : {A : Type 0} → TwoMounts → Steps A → TwoHistories
+linked_histories_of m (Done value) = histories [] []
+linked_histories_of m (Ask who call next) =
     let answer = linked_answer m who call in
-    let rest = linked_played answer.left (next answer.reply) in
+    let rest = linked_histories_of answer.left (next answer.reply) in
     histories (answer.even ++ rest.even) (answer.odd ++ rest.odd)
 
 -- the histories of a script, a function of script and seed alone
 abbrev pub linked_histories : List ℕ → List Section → TwoHistories
-linked_histories seed script = linked_played (two empty_mount empty_mount) (rotation_steps seed script)
+linked_histories seed script = linked_histories_of (two empty_mount empty_mount) (rotation_steps seed script)
 
 -- the calls of callers, with their replies: each call answered by the mounts that the calls before it leave
-abbrev pub calls_played : {A : Type 0} → TwoMounts → Steps A → History
-calls_played m (Done value) = []
-calls_played m (Ask who call next) =
+abbrev pub serial_calls_of : {A : Type 0} → TwoMounts → Steps A → History
+serial_calls_of m (Done value) = []
+serial_calls_of m (Ask who call next) =
     let answer = linked_answer m who call in
-    entry who call answer.reply ∷ calls_played answer.left (next answer.reply)
+    entry who call answer.reply ∷ serial_calls_of answer.left (next answer.reply)
 
 -- those of a script, a function of script and seed alone
 abbrev pub linked_calls : List ℕ → List Section → History
-linked_calls seed script = calls_played (two empty_mount empty_mount) (rotation_steps seed script)
+linked_calls seed script = serial_calls_of (two empty_mount empty_mount) (rotation_steps seed script)

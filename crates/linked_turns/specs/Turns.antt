@@ -10,7 +10,7 @@ use Rattle.fsc_session.specs.Rotation.{Waiting}
 use Rattle.mount_links.specs.declared.step.LinkStep.{LinkStep}
 use Rattle.script_runs.specs.Callers as runs
 use Rattle.script_runs.specs.InRange.{AreInRange}
-use Rattle.script_runs.specs.Turns.{Rotates, Taken}
+use Rattle.script_runs.specs.Turns.{Rotates, RunnerTurn}
 use Rattle.script_runs.specs.MountPlaces.{At, Goes, Stands}
 use Rattle.linked_turns.specs.declared.runners.LinkedRunner.{LinkedRunner}
 use Rattle.linked_turns.specs.Callers.{runners_of}
@@ -26,14 +26,14 @@ sections_of callers = runs.sections_of (runners_of callers)
 
 -- the mounts are in the state after their entries, which are the runners' alone and in range; and they have
 -- their parts of each runner's calls, whose steps the runner has
-pub record Rotating {M N : Type 0} (leads_0 : History → M → Type 0) (leads_1 : History → N → Type 0)
+pub record Rotating {M N : Type 0} (reaches_0 : History → M → Type 0) (reaches_1 : History → N → Type 0)
     (seed : List ℕ) (script : List Section) (whole rest : Steps (List Waiting))
     (turns : ℕ → ℕ) (callers : List LinkedRunner) (even_mount : At M) (odd_mount : At N) : Type 0 where
   pub told : PlacedCalls
   pub even : PlacedCalls
   pub odd : PlacedCalls
-  pub even_stands : Stands leads_0 even even_mount
-  pub odd_stands : Stands leads_1 odd odd_mount
+  pub even_stands : Stands reaches_0 even even_mount
+  pub odd_stands : Stands reaches_1 odd odd_mount
   pub even_ranged : AreInRange even
   pub odd_ranged : AreInRange odd
   pub rotates : Rotates seed script whole rest turns (runners_of callers) told
@@ -46,15 +46,15 @@ pub record Rotating {M N : Type 0} (leads_0 : History → M → Type 0) (leads_1
   pub odd_is : odd ≡ parts_1 steps told
 
 -- a runner's turn: these calls, and their parts on the mounts
-pub record TurnMade {M N : Type 0} (leads_0 : History → M → Type 0) (leads_1 : History → N → Type 0)
+pub record LinkedTurnOf {M N : Type 0} (reaches_0 : History → M → Type 0) (reaches_1 : History → N → Type 0)
     (seed : List ℕ) (even_mount : At M) (odd_mount : At N) (old : LinkedRunner)
     (even_mount' : At M) (odd_mount' : At N) (new : LinkedRunner) : Type 0 where
   pub made : PlacedCalls
   pub even : PlacedCalls
   pub odd : PlacedCalls
-  pub taken : Taken seed old.runner new.runner made
-  pub even_goes : Goes leads_0 old.runner.caller even_mount even even_mount'
-  pub odd_goes : Goes leads_1 old.runner.caller odd_mount odd odd_mount'
+  pub taken : RunnerTurn seed old.runner new.runner made
+  pub even_goes : Goes reaches_0 old.runner.caller even_mount even even_mount'
+  pub odd_goes : Goes reaches_1 old.runner.caller odd_mount odd odd_mount'
   pub even_ranged : AreInRange even
   pub odd_ranged : AreInRange odd
   pub steps : List LinkStep

@@ -41,7 +41,7 @@ on_mount_1 m who call =
     }
 
 -- a call after another one on mount 1
-abbrev pub behind : TwoMounts → ℕ → Call → (TwoMounts → LinkedAnswer) → LinkedAnswer
-behind m who first next =
+abbrev pub after_call_on_1 : TwoMounts → ℕ → Call → (TwoMounts → LinkedAnswer) → LinkedAnswer
+after_call_on_1 m who first next =
     let after = next (two m.even (answer_of m.odd who first).mount) in
     record after { odd = entry who first (answer_of m.odd who first).reply ∷ after.odd }

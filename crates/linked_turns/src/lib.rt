@@ -5,13 +5,13 @@
 mod laws;
 mod log;
 mod mounts;
+mod output;
 mod rotation;
 mod runners;
-mod told;
 mod turn;
 
 pub use laws::linked_logs_have_one_meaning;
 pub use log::linked_log;
 pub use mounts::Mounts;
+pub use output::LinkedOutput;
 pub use rotation::run_linked_in_rotation;
-pub use told::LinkedTold;

@@ -2,10 +2,10 @@
 
 ghost use Rattle.std.specs.Prelude.{◌≡◌, ◌++◌, IfOk, OnOk};
 ghost use Rattle.call_history.specs.Placed.{entries_of};
-ghost use Rattle.reply_text.specs.Shown.{shown_log};
+ghost use Rattle.reply_text.specs.Logged.{log_of_history};
 ghost use Rattle.linked_turns.specs.LinkedText.{linked_text};
 
-use crate::told::LinkedTold;
+use crate::output::LinkedOutput;
 use item_list::Bytes;
 use reply_text::{write_log, write_notes};
 use script_runs::{PlacedVec, history_of};
@@ -13,7 +13,7 @@ use std::alloc::{AllocError, Global};
 
 /// Returns the text of a run on two mounts: the line `mount 0` and the log of mount 0, the line `mount 1`
 /// and the log of mount 1, then the notes. The only error is out of memory.
-pub fn linked_log(alloc: Global, told: LinkedTold) -> Result<Bytes, AllocError>
+pub fn linked_log(alloc: Global, told: LinkedOutput) -> Result<Bytes, AllocError>
     ensures { IfOk result (λ text. text ≡ linked_text (entries_of told.even.items)
         (entries_of told.odd.items) told.notes.items) }
 {
@@ -32,7 +32,7 @@ fn put_log(
     entries: PlacedVec,
 ) -> Result<(), AllocError>
     ensures { OnOk result (text.new.items ≡ text.old.items
-        ++ (heading.now ++ shown_log (entries_of entries.items))) }
+        ++ (heading.now ++ log_of_history (entries_of entries.items))) }
 {
     let history = history_of(alloc, entries)?;
     text.extend_from_slice(heading)?;

@@ -4,13 +4,13 @@ ghost use Rattle.std.specs.Prelude.{◌≡◌, [], length, IfOk, OnOk};
 ghost use Rattle.script_lang.specs.Spelled.{IsSpelled};
 ghost use Rattle.fsc_commands.specs.Steps.Steps.{Done};
 ghost use Rattle.fsc_session.specs.Rotation.{rounds_steps};
-ghost use Rattle.linked_turns.specs.LinkedRuns.{TellsLinkedRun};
+ghost use Rattle.linked_turns.specs.LinkedRuns.{IsLinkedLogOf};
 ghost use Rattle.script_runs.specs.MountPlaces.{at};
 ghost use Rattle.linked_turns.specs.Turns.{Rotating, sections_of, states_of};
 
 use crate::mounts::{Mounts, SerialMounts};
+use crate::output::{LinkedOutput, output_of_runners};
 use crate::runners::{LinkedRunner, fresh_runners};
-use crate::told::{LinkedTold, told_by};
 use crate::turn::take_turn;
 use argon_kdf::Stretch;
 use call_history::sort_by_place;
@@ -35,12 +35,12 @@ pub fn run_linked_in_rotation<G: Gate, S: Stretch, M: MountMachine, N: MountMach
     gate: &G,
     stretches: &S,
     mounts: Mounts<M, N>,
-) -> Result<LinkedTold, AllocError>
+) -> Result<LinkedOutput, AllocError>
     requires spelled { IsSpelled script.now }
     requires ready { S.ready stretches.now }
-    requires leads_even { M.leads [] mounts.even }
-    requires leads_odd { N.leads [] mounts.odd }
-    ensures { IfOk result (λ told. TellsLinkedRun M.lawful N.lawful seed.now script.now
+    requires reaches_even { M.reaches [] mounts.even }
+    requires reaches_odd { N.reaches [] mounts.odd }
+    ensures { IfOk result (λ told. IsLinkedLogOf M.lawful N.lawful seed.now script.now
         told.even.items told.odd.items told.notes.items) }
 {
     let sections = script.as_slice();
@@ -59,7 +59,7 @@ pub fn run_linked_in_rotation<G: Gate, S: Stretch, M: MountMachine, N: MountMach
         stretches,
     )?;
     scrub_stack();
-    let mut told = told_by(alloc, runners)?;
+    let mut told = output_of_runners(alloc, runners)?;
     sort_by_place(&mut told.even)?;
     sort_by_place(&mut told.odd)?;
     Ok(told)
@@ -76,12 +76,12 @@ fn run_rounds<G: Gate, S: Stretch, M: MountMachine, N: MountMachine>(
     stretches: &S,
 ) -> Result<SerialMounts<M, N>, AllocError>
     requires ready { S.ready stretches.now }
-    requires begins { Rotating M.leads N.leads seed.now (sections_of runners.old)
+    requires begins { Rotating M.reaches N.reaches seed.now (sections_of runners.old)
         (rounds_steps seed.now rounds 0 (states_of runners.old))
         (rounds_steps seed.now rounds 0 (states_of runners.old))
         (λ j. 0) runners.old
         (at mounts.even.machine mounts.even.places) (at mounts.odd.machine mounts.odd.places) }
-    ensures turned { IfOk result (λ after. Rotating M.leads N.leads seed.now (sections_of runners.old)
+    ensures turned { IfOk result (λ after. Rotating M.reaches N.reaches seed.now (sections_of runners.old)
         (rounds_steps seed.now rounds 0 (states_of runners.old))
         (Done (states_of runners.new))
         (λ j. rounds) runners.new

@@ -1,7 +1,7 @@
 //! A caller that works on two mounts.
 
 ghost use Rattle.std.specs.Prelude.{◌≡◌, ◌≤◌, IfOk, length, map};
-ghost use Rattle.script_lang.specs.declared.limits.TheConstants.{MOST_CALLERS};
+ghost use Rattle.script_lang.specs.declared.limits.TheConstants.{MAX_CALLERS};
 ghost use Rattle.linked_turns.specs.Callers.{fresh_views, view_of};
 
 use fsc_session::Runner;
@@ -21,7 +21,7 @@ pub(crate) fn fresh_runners(
     alloc: Global,
     sections: &[Section],
 ) -> Result<Vec<LinkedRunner<'_>>, AllocError>
-    requires { length sections.now ≤ MOST_CALLERS }
+    requires { length sections.now ≤ MAX_CALLERS }
     ensures { IfOk result (λ runners. map view_of runners.items ≡ fresh_views 0 sections.now) }
 {
     let mut runners = Vec::new(alloc);

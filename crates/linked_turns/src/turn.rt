@@ -1,19 +1,19 @@
 //! A caller's turn.
 
 ghost use Rattle.std.specs.Prelude.{◌≡◌, ◌*◌, [], ◌++◌, true, false, IfOk, OnOk};
-ghost use Rattle.fsc_commands.specs.declared.TheConstants.{MOST_CALLS};
+ghost use Rattle.fsc_commands.specs.declared.TheConstants.{MAX_CALLS};
 ghost use Rattle.fsc_session.specs.Asking.{AsksRightly};
 ghost use Rattle.mount_links.specs.LinkCalls.{link_view};
 ghost use Rattle.mount_shared.specs.SerialCalls.{serial_view};
 ghost use Rattle.script_runs.specs.MountPlaces.{at};
-ghost use Rattle.linked_turns.specs.Turns.{TurnMade};
+ghost use Rattle.linked_turns.specs.Turns.{LinkedTurnOf};
 ghost use Rattle.linked_turns.specs.Parts.{is_even};
 
 use crate::mounts::SerialMounts;
 use crate::runners::LinkedRunner;
 use argon_kdf::Stretch;
-use call_history::MOST_PLACES;
-use fsc_commands::MOST_CALLS;
+use call_history::MAX_PLACES;
+use fsc_commands::MAX_CALLS;
 use fsc_outside::Gate;
 use mount_links::{LinkPort, LinkStep};
 use mount_shared::{MountMachine, SerialPort};
@@ -34,7 +34,7 @@ pub(crate) fn take_turn<G: Gate, S: Stretch, M: MountMachine, N: MountMachine>(
 ) -> Result<SerialMounts<M, N>, AllocError>
     requires ready { S.ready stretches.now }
     requires asked { AsksRightly caller.old.runner.section }
-    ensures { IfOk result (λ after. TurnMade M.leads N.leads seed.now
+    ensures { IfOk result (λ after. LinkedTurnOf M.reaches N.reaches seed.now
         (at mounts.even.machine mounts.even.places) (at mounts.odd.machine mounts.odd.places) caller.old
         (at after.even.machine after.even.places) (at after.odd.machine after.odd.places) caller.new) }
 {
@@ -60,7 +60,7 @@ fn step<S: Stretch, M: MountMachine, N: MountMachine>(
 ) -> Result<SerialMounts<M, N>, AllocError>
     requires ready { S.ready stretches.now }
     requires asked { AsksRightly caller.old.runner.section }
-    ensures { IfOk result (λ after. TurnMade M.leads N.leads seed.now
+    ensures { IfOk result (λ after. LinkedTurnOf M.reaches N.reaches seed.now
         (at mounts.even.machine mounts.even.places) (at mounts.odd.machine mounts.odd.places) caller.old
         (at after.even.machine after.even.places) (at after.odd.machine after.odd.places) caller.new) }
 {
@@ -82,14 +82,14 @@ fn step_on_mount_0<S: Stretch, M: MountMachine, N: MountMachine>(
     requires ready { S.ready stretches.now }
     requires asked { AsksRightly caller.old.runner.section }
     requires even { is_even caller.old.runner.caller ≡ true }
-    ensures { IfOk result (λ after. TurnMade M.leads N.leads seed.now
+    ensures { IfOk result (λ after. LinkedTurnOf M.reaches N.reaches seed.now
         (at mounts.even.machine mounts.even.places) (at mounts.odd.machine mounts.odd.places) caller.old
         (at after.even.machine after.even.places) (at after.odd.machine after.odd.places) caller.new) }
 {
-    if mounts.even.places > MOST_PLACES - MOST_CALLS {
+    if mounts.even.places > MAX_PLACES - MAX_CALLS {
         return Err(AllocError);
     }
-    let port = mounts.even.port(caller.runner.caller(), MOST_CALLS);
+    let port = mounts.even.port(caller.runner.caller(), MAX_CALLS);
     let mut port = RangedPort::over(port);
     caller.runner.step(alloc, &mut port, stretches, seed)?;
     Ok(SerialMounts {
@@ -109,7 +109,7 @@ fn step_on_both<S: Stretch, M: MountMachine, N: MountMachine>(
     requires ready { S.ready stretches.now }
     requires asked { AsksRightly caller.old.runner.section }
     requires odd { is_even caller.old.runner.caller ≡ false }
-    ensures { IfOk result (λ after. TurnMade M.leads N.leads seed.now
+    ensures { IfOk result (λ after. LinkedTurnOf M.reaches N.reaches seed.now
         (at mounts.even.machine mounts.even.places) (at mounts.odd.machine mounts.odd.places) caller.old
         (at after.even.machine after.even.places) (at after.odd.machine after.odd.places) caller.new) }
 {
@@ -126,21 +126,21 @@ fn link_port<M: MountMachine, N: MountMachine>(
     caller: u32,
 ) -> Result<SerialLinks<M, N>, AllocError>
     ensures { IfOk result (λ port. port ≡ link_view
-        (serial_view mounts.odd.machine mounts.odd.places caller (2 * MOST_CALLS))
-        (serial_view mounts.even.machine mounts.even.places caller MOST_CALLS) MOST_CALLS []) }
+        (serial_view mounts.odd.machine mounts.odd.places caller (2 * MAX_CALLS))
+        (serial_view mounts.even.machine mounts.even.places caller MAX_CALLS) MAX_CALLS []) }
 {
-    if mounts.even.places > MOST_PLACES - MOST_CALLS
-        || mounts.odd.places > MOST_PLACES - 2 * MOST_CALLS
+    if mounts.even.places > MAX_PLACES - MAX_CALLS
+        || mounts.odd.places > MAX_PLACES - 2 * MAX_CALLS
     {
         return Err(AllocError);
     }
-    let own = mounts.odd.port(caller, 2 * MOST_CALLS);
-    let far = mounts.even.port(caller, MOST_CALLS);
+    let own = mounts.odd.port(caller, 2 * MAX_CALLS);
+    let far = mounts.even.port(caller, MAX_CALLS);
     LinkPort::new(
         alloc,
         RangedPort::over(own),
         RangedPort::over(far),
-        MOST_CALLS,
+        MAX_CALLS,
     )
 }
 

@@ -28,7 +28,7 @@ use Rattle.mount_state.specs.Stored.{stored_body, stored_form}
 use Rattle.image_lines.specs.Image.{Image, ImageNode, numbers_of, all_entries, children_of as image_children}
 use Rattle.image_lines.specs.Rules.{HasGoodChildren}
 use Rattle.tree_image.specs.Images.{image_node, mount_image, stored_entry}
-use Rattle.tree_image.specs.Order.{in_order, ordered}
+use Rattle.tree_image.specs.Order.{in_order, body_in_order}
 use Rattle.tree_listing.proofs.Members.{In, all_from_in, contains_from_in, holds_in, in_map, in_from_map, in_from_flat}
 use Rattle.listing_laws.proofs.MapLemmas.{from_T, in_filter, in_from_filter, in_ordered, in_from_ordered, apart_joined, apart_ordered, get_from_entry, entry_from_get}
 use Rattle.listing_laws.proofs.PlainLemmas.{child_entry, named_child}
@@ -41,7 +41,7 @@ of_mount raws e = image_node (stored_entry raws e)
 abbrev pub stored_child : Raws → ℕ × Node → Name × ℕ → List ℕ × ℕ
 stored_child raws e c = (stored_form raws e.0 e.1.context c.0, c.1)
 
-body_entries : (raws : Raws) (n : ℕ) (context : Option Context) (b : Body) → entries_of (ordered (stored_body raws n context b)) ≡ in_order (stored_children (stored_form raws n context) (children_of b))
+body_entries : (raws : Raws) (n : ℕ) (context : Option Context) (b : Body) → entries_of (body_in_order (stored_body raws n context b)) ≡ in_order (stored_children (stored_form raws n context) (children_of b))
 body_entries raws n context (Dir cs) = refl
 body_entries raws n context (File contents) = refl
 body_entries raws n context (Link target) = refl

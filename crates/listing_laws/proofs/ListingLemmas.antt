@@ -24,16 +24,16 @@ use Rattle.mount_model.specs.SoundNodes.{HasRaw, IsBody, IsName}
 use Rattle.mount_state.specs.Stored.{stored_body, stored_form}
 use Rattle.image_lines.specs.Image.{ImageNode}
 use Rattle.tree_image.specs.Images.{mount_image}
-use Rattle.tree_image.specs.Order.{ordered}
+use Rattle.tree_image.specs.Order.{body_in_order}
 use Rattle.disk_tree.specs.Nodes.{entries_of}
-use Rattle.tree_listing.specs.Listing.{IsListing, body_seen, listed, place_seen}
+use Rattle.tree_listing.specs.Listing.{IsListing, visible_body, listed, visible_place}
 use Rattle.tree_listing.specs.PlacedEntries.{IsReached, PlacedEntry, entry_to}
 use Rattle.tree_listing.specs.ListingText.{ListedNode, listing_text}
 use Rattle.tree_listing.specs.ListingText as text
 use Rattle.tree_listing.proofs.Members.{In, found_in, in_flat, in_from_flat, in_from_map, in_map}
 use Rattle.tree_listing.proofs.LeadLemmas.{entry_to_from, entry_to_own}
 use Rattle.listing_laws.specs.Laws.{IsOnlyKey}
-use Rattle.listing_laws.specs.Shown.{body_shown, listing_shown, place_shown, shown}
+use Rattle.listing_laws.specs.Expected.{expected_body, expected_listing, expected_place, shown}
 use Rattle.listing_laws.specs.PlacedNames.{PlacedName, name_to, names_in, placed_names}
 use Rattle.listing_laws.proofs.MapLemmas.{ordered_long, entry_from_get, get_from_entry, in_from_filter}
 use Rattle.listing_laws.proofs.PlainLemmas.{child_entry, entry_dir}
@@ -145,22 +145,22 @@ module _ (m : PlainMount) (well : IsWellFormed m) where
   -- ---- nodes
 
   module _ (back : NamesComeBack) (come : ContentsComeBack) (derives : DerivesBytes hash_sha512) (raw : Option (List ℕ)) (only : IsOnlyKey m.raws raw) where
-    place_agrees : (n : ℕ) → option_map (place_seen raw) (entry_to (mount_image m) n) ≡ option_map (place_shown m.raws (option_map key_id_of raw)) (name_to m.nodes n)
-    place_agrees n = ap (option_map (place_seen raw)) (name_to_is n) ∙ by_name (name_to m.nodes n) refl
+    place_agrees : (n : ℕ) → option_map (visible_place raw) (entry_to (mount_image m) n) ≡ option_map (expected_place m.raws (option_map key_id_of raw)) (name_to m.nodes n)
+    place_agrees n = ap (option_map (visible_place raw)) (name_to_is n) ∙ by_name (name_to m.nodes n) refl
       where
         by_name : (o : Option PlacedName) → name_to m.nodes n ≡ o
-            → option_map (place_seen raw) (option_map image_name (name_to m.nodes n)) ≡ option_map (place_shown m.raws (option_map key_id_of raw)) (name_to m.nodes n)
+            → option_map (visible_place raw) (option_map image_name (name_to m.nodes n)) ≡ option_map (expected_place m.raws (option_map key_id_of raw)) (name_to m.nodes n)
         by_name None is = rw is refl
         by_name (Some p) is =
             let found = found_name n p is in
             let name = well.nodes.names p.0.0 p.1.0 p.1.1 (child_entry m.nodes m.next well.nodes.tree p.0.0 p.0.1 p.1 found.0 found.1) in
             let word = words_agree back derives m.raws p.0.0 p.1.0 name.0.bytes (plain_name p.1.0 name) raw p.0.1.context only (good_from m.raws p.0.1.context (well.nodes.policies p.0.0 p.0.1 found.0)) in
-            ap (λ o. option_map (place_seen raw) (option_map image_name o)) is
+            ap (λ o. option_map (visible_place raw) (option_map image_name o)) is
             ∙ (λ i. Some (p.0.0, word i))
-            ∙ ap (option_map (place_shown m.raws (option_map key_id_of raw))) (sym is)
+            ∙ ap (option_map (expected_place m.raws (option_map key_id_of raw))) (sym is)
 
     body_agrees : (n : ℕ) (context : Option Context) (b : Body) → IsGoodOrNone m.raws context → IsBody b
-        → body_seen raw n (option_map context_bytes context) (ordered (stored_body m.raws n context b)) ≡ body_shown m.raws (option_map key_id_of raw) n context b
+        → visible_body raw n (option_map context_bytes context) (body_in_order (stored_body m.raws n context b)) ≡ expected_body m.raws (option_map key_id_of raw) n context b
     body_agrees n context (Dir cs) good is =
         let stored = stored_children (stored_form m.raws n context) cs in
         let long : length stored ≡ length cs = length-map _ _ in
@@ -184,7 +184,7 @@ module _ (m : PlainMount) (well : IsWellFormed m) where
         let own = in_from_filter (λ (x : ℕ × Node). x.1.named) (entries m.nodes) e there in
         node_agrees e (get_from_entry m.nodes e.0 e.1 own.0))
 
-    pub is_listing : IsListing (mount_image m) raw (listing_shown m (option_map key_id_of raw))
+    pub is_listing : IsListing (mount_image m) raw (expected_listing m (option_map key_id_of raw))
     is_listing = record {
       reached = is_named m.nodes;
       exact = λ n. ((λ named. reached_image (well.nodes.tree.reached n named)), (λ own. reached_named own));

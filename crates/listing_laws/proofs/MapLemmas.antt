@@ -8,7 +8,7 @@ use Rattle.std.specs.FinMap.Entries.{find, is_sorted, below_all}
 use Rattle.std.proofs.lemmas.Bool.{and_parts, ne_eqb, eq-eqb}
 use Rattle.std.proofs.lemmas.Cmp.{nat_cmp_total, tied_itself}
 use Rattle.std.proofs.lemmas.Option.{same_Some}
-use Rattle.number_map.specs.Numbered.{Numbered, get, entries}
+use Rattle.number_map.specs.Numbered.{NumberedValues, get, entries}
 use Rattle.number_map.proofs.NumberTests.{tied, untied, same_of_tied}
 use Rattle.disk_tree.specs.Entries.{Entries}
 use Rattle.tree_image.specs.Order.{entry_cmp, put_in_order, in_order}
@@ -216,8 +216,8 @@ in_from_found (e ∷ es) q v is = by_test (eq_by_cmp nat_cmp q e.0) refl (λ lat
         inl (λ i. (sym same i, value i))
     by_test false t later = inr (later (rw t at is))
 
-pub get_from_entry : {A : Type 0} (m : Numbered A) (q : ℕ) (v : A) → In (let e : ℕ × A = (q, v) in e) (entries m) → get m q ≡ Some v
+pub get_from_entry : {A : Type 0} (m : NumberedValues A) (q : ℕ) (v : A) → In (let e : ℕ × A = (q, v) in e) (entries m) → get m q ≡ Some v
 get_from_entry m q v there = get-entries m q ∙ found_from_in (entries m) q v (from_T (is_sorted nat_cmp (entries m)) (entries_sorted m)) there
 
-pub entry_from_get : {A : Type 0} (m : Numbered A) (q : ℕ) (v : A) → get m q ≡ Some v → In (let e : ℕ × A = (q, v) in e) (entries m)
+pub entry_from_get : {A : Type 0} (m : NumberedValues A) (q : ℕ) (v : A) → get m q ≡ Some v → In (let e : ℕ × A = (q, v) in e) (entries m)
 entry_from_get m q v is = in_from_found (entries m) q v (sym (get-entries m q) ∙ is)

@@ -12,7 +12,7 @@ use Rattle.policy_ctx.specs.declared.policy.Context.{Context}
 use Rattle.number_map.specs.Numbered.{empty}
 use Rattle.plain_tree.specs.Nodes.{Name, Node, Body, Dir, File, Link}
 use Rattle.plain_tree.specs.NodesByNumber.{context_at, is_named}
-use Rattle.plain_tree.specs.Changes.{dropped, first_nodes, gone}
+use Rattle.plain_tree.specs.Changes.{dropped, first_nodes, without_node}
 use Rattle.plain_tree.proofs.FactLemmas.{IsOfBodies, each_inserted, each_made, each_dropped, each_gone, each_moved, each_written, each_encrypted}
 use Rattle.mount_model.specs.declared.call.Op.{Op}
 use Rattle.mount_model.specs.declared.call.Op.TheVariants as op
@@ -21,12 +21,12 @@ use Rattle.mount_model.specs.PlainMount.{PlainMount, empty_mount}
 use Rattle.mount_model.specs.OpenHandles.{has_handle, without_handle}
 use Rattle.mount_model.specs.KeyAnswers.{status_of}
 use Rattle.mount_model.specs.SpelledPolicy.{policy_in}
-use Rattle.mount_model.specs.NewNodes.{inherited, new_node, with_node}
+use Rattle.mount_model.specs.NewNodes.{inherited_context, new_node, with_node}
 use Rattle.mount_model.specs.UnlinkAnswers.{without_name}
 use Rattle.mount_model.specs.CloseAnswers.{with_closed}
-use Rattle.mount_model.specs.Answered.{Answer}
+use Rattle.mount_model.specs.AnswerForms.{Answer}
 use Rattle.mount_model.specs.Answer.{answer_to}
-use Rattle.mount_model.specs.History.{History, MountEntry, is_want_of_memory, mount_from, mount_left}
+use Rattle.mount_model.specs.History.{History, MountEntry, is_out_of_memory, mount_from, mount_after_entry}
 use Rattle.mount_model.proofs.CaseLemmas.{Covers, at_add_key, at_remove_key, at_remove_key_all, at_set_policy, at_get_policy}
 use Rattle.mount_model.proofs.NameCases.{at_make, at_unlink, at_rmdir, at_rename}
 use Rattle.mount_model.proofs.FileCases.{at_read_link, at_list, at_stat, at_open_node, at_read, at_write, at_close, at_meta_load, at_meta_store}
@@ -45,7 +45,7 @@ of_bodies = record { children = λ x g v has. has; named = λ x named v has. has
 own_nonce : (nonce : List ℕ) (new c : Context) → AreBytesOfLength 16 nonce → new.nonce ≡ nonce → Some new ≡ Some c → AreBytesOfLength 16 c.nonce
 own_nonce nonce new c is own same = subst (AreBytesOfLength 16) (sym own ∙ ap (λ (x : Context). x.nonce) (same_Some new c same)) is
 
-inherits : (nonce : List ℕ) (o : Option Context) → AreBytesOfLength 16 nonce → (c : Context) → inherited nonce o ≡ Some c → AreBytesOfLength 16 c.nonce
+inherits : (nonce : List ℕ) (o : Option Context) → AreBytesOfLength 16 nonce → (c : Context) → inherited_context nonce o ≡ Some c → AreBytesOfLength 16 c.nonce
 inherits nonce None is c same = absurd (cc same)
 inherits nonce (Some old) is c same = own_nonce nonce _ c is refl same
 
@@ -59,13 +59,13 @@ module _ (m : PlainMount) (has : HasNonces m.nodes) where
   name_dropped : (d : ℕ) (name : Name) (x : ℕ) → HasNonces (without_name m d name x).nodes
   name_dropped d name x =
       let left = each_dropped Nonced of_bodies m.nodes has d name x in
-      cond_both (has_handle m.handles x) (dropped m.nodes d name x) (gone (dropped m.nodes d name x) x) HasNonces
+      cond_both (has_handle m.handles x) (dropped m.nodes d name x) (without_node (dropped m.nodes d name x) x) HasNonces
       (λ _. left)
       (λ _. each_gone Nonced (dropped m.nodes d name x) left x)
 
   handle_closed : (caller handle n : ℕ) → HasNonces (with_closed m caller handle n).nodes
   handle_closed caller handle n =
-      cond_both (is_named m.nodes n || has_handle (without_handle caller handle m.handles) n) m.nodes (gone m.nodes n) HasNonces
+      cond_both (is_named m.nodes n || has_handle (without_handle caller handle m.handles) n) m.nodes (without_node m.nodes n) HasNonces
       (λ _. has)
       (λ _. each_gone Nonced m.nodes has n)
 
@@ -97,16 +97,16 @@ module _ (m : PlainMount) (has : HasNonces m.nodes) where
   nonces_step caller uid (op.MetaLoad name) is = at_meta_load Kept m name covers
   nonces_step caller uid (op.MetaStore name expected bytes) is = at_meta_store Kept m name expected bytes covers (λ _ _. has)
 
-entry_leaves : (m : PlainMount) (e : MountEntry) → HasNonces m.nodes → CarriesNonce e.call.op → HasNonces (mount_left m e).nodes
+entry_leaves : (m : PlainMount) (e : MountEntry) → HasNonces m.nodes → CarriesNonce e.call.op → HasNonces (mount_after_entry m e).nodes
 entry_leaves m e has is =
-    cond_both (is_want_of_memory e.reply) m (answer_to m e.who e.call.uid e.call.op).mount (λ (x : PlainMount). HasNonces x.nodes)
+    cond_both (is_out_of_memory e.reply) m (answer_to m e.who e.call.uid e.call.op).mount (λ (x : PlainMount). HasNonces x.nodes)
     (λ _. has)
     (λ _. nonces_step m has e.who e.call.uid e.call.op is)
 
 history_leaves : (m : PlainMount) (h : History) → HasNonces m.nodes → All (λ (e : MountEntry). CarriesNonce e.call.op) h → HasNonces (mount_from m h).nodes
 history_leaves m [] has are = has
 history_leaves m (e ∷ h) has are =
-    history_leaves (mount_left m e) h (entry_leaves m e has (All-head (λ (x : MountEntry). CarriesNonce x.call.op) e h are)) (All-tail (λ (x : MountEntry). CarriesNonce x.call.op) e h are)
+    history_leaves (mount_after_entry m e) h (entry_leaves m e has (All-head (λ (x : MountEntry). CarriesNonce x.call.op) e h are)) (All-tail (λ (x : MountEntry). CarriesNonce x.call.op) e h are)
 
 none_yet : HasNonces empty
 none_yet x v there = let none : None ≡ Some v = sym (get-empty nat_cmp x) ∙ there in absurd (cc)

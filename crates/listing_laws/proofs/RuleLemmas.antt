@@ -28,7 +28,7 @@ use Rattle.image_lines.specs.Image.{Image, ImageNode, numbers_of}
 use Rattle.image_lines.specs.Rules.{BeginsWithRoot, IsImage}
 use Rattle.image_lines.specs.NodeRules.{IsBody, IsContext, IsEntry, IsNode}
 use Rattle.tree_image.specs.Images.{mount_image}
-use Rattle.tree_image.specs.Order.{in_order, ordered}
+use Rattle.tree_image.specs.Order.{in_order, body_in_order}
 use Rattle.tree_listing.proofs.Members.{In, all_from_in, holds_in, in_from_map, in_map}
 use Rattle.listing_laws.specs.Laws.{HasNonces}
 use Rattle.listing_laws.proofs.MapLemmas.{in_from_ordered}
@@ -91,7 +91,7 @@ module _ (fit : StoredNamesFit) (are : StoredNamesAreBytes) (derives : DerivesBy
         child = number_small c.1 child.0 child.1;
       }
 
-  body_good : (n : ℕ) (v : Node) → get m.nodes n ≡ Some v → (b : Body) → v.body ≡ b → IsBody (is_some (option_map context_bytes v.context)) (ordered (stored_body m.raws n v.context b))
+  body_good : (n : ℕ) (v : Node) → get m.nodes n ≡ Some v → (b : Body) → v.body ≡ b → IsBody (is_some (option_map context_bytes v.context)) (body_in_order (stored_body m.raws n v.context b))
   body_good n v got (Dir cs) is =
       let keys = subst (λ l. IsDistinct bytes_eq (keys_of l)) (ap children_in got ∙ ap children_of is) (well.nodes.tree.names.distinct n) in
       let stored = stored_children (stored_form m.raws n v.context) cs in
@@ -122,7 +122,7 @@ module _ (fit : StoredNamesFit) (are : StoredNamesAreBytes) (derives : DerivesBy
   root_good : BeginsWithRoot (mount_image m)
   root_good = by_case (get m.nodes 0) refl
     where
-      dir_body : (context : Option Context) (b : Body) → is_dir b ≡ true → IsDir (ordered (stored_body m.raws 0 context b))
+      dir_body : (context : Option Context) (b : Body) → is_dir b ≡ true → IsDir (body_in_order (stored_body m.raws 0 context b))
       dir_body context (Dir cs) is = tt
       dir_body context (File contents) is = absurd (cc is)
       dir_body context (Link target) is = absurd (cc is)

@@ -29,10 +29,10 @@ use Rattle.script_words.specs.Word.{word_text}
 use Rattle.mount_model.specs.PlainMount.{Raws, raw_in}
 use Rattle.mount_model.specs.Sealed.{node_key, node_start, raw_for, sealed_name, texts}
 use Rattle.mount_state.specs.Stored.{contents_seal, stored_form}
-use Rattle.tree_listing.specs.Sights.{digest_seen, sight_of, word_or_text, word_seen, Under, Locked}
+use Rattle.tree_listing.specs.Sights.{visible_digest, sight_of, word_or_text, visible_word, Under, Locked}
 use Rattle.tree_listing.specs.DrawnKeys.{key_in, seal_in, start_in, unit_in}
 use Rattle.listing_laws.specs.Laws.{IsOnlyKey}
-use Rattle.listing_laws.specs.Shown.{digest_shown, word_shown}
+use Rattle.listing_laws.specs.Expected.{digest_shown, expected_word}
 
 -- a context whose identifier has 16 bytes and a raw key, and whose nonce has 16
 pub record IsGood (raws : Raws) (c : Context) : Type 0 where
@@ -80,15 +80,15 @@ module _ (raws : Raws) (raw : List ℕ) (c : Context) (good : IsGood raws c) (ow
   start_is : (n : ℕ) → start_in n (context_bytes c) ≡ node_start n c
   start_is n = let mode = is_by_mode_in-context_bytes c in λ i. if mode i then n * 2 ^ 32 else 0
 
-  unit_told : (unit : DataUnit) → unwrap_or (unit_of_log2 (unit_log2 unit)) Block ≡ unit
-  unit_told Block = refl
-  unit_told U512 = refl
-  unit_told U1024 = refl
-  unit_told U2048 = refl
-  unit_told U4096 = refl
+  unit_of_log : (unit : DataUnit) → unwrap_or (unit_of_log2 (unit_log2 unit)) Block ≡ unit
+  unit_of_log Block = refl
+  unit_of_log U512 = refl
+  unit_of_log U1024 = refl
+  unit_of_log U2048 = refl
+  unit_of_log U4096 = refl
 
   unit_is : unit_in (context_bytes c) ≡ c.policy.unit
-  unit_is = unit_told c.policy.unit
+  unit_is = unit_of_log c.policy.unit
 
   seal_is : (n : ℕ) → (let seal : Option Seal = Some (seal_in raw (context_bytes c) n) in seal ≡ contents_seal raws n (Some c))
   seal_is n =
@@ -108,14 +108,14 @@ some_word : (stored name : List ℕ) → 1 ≤ length name → word_or_text stor
 some_word stored [] some = absurd (omega arith)
 some_word stored (b ∷ bs) some = refl
 
-text_is : (raws : Raws) (n : ℕ) (c : Context) (name : Name) → word_seen Locked n (stored_form raws n (Some c) name) ≡ texts raws n c name
+text_is : (raws : Raws) (n : ℕ) (c : Context) (name : Name) → visible_word Locked n (stored_form raws n (Some c) name) ≡ texts raws n c name
 unfolding texts
 text_is raws n c name = refl
 
 module _ (back : NamesComeBack) (derives : DerivesBytes hash_sha512) (raws : Raws) (n : ℕ) (name : Name) (bytes : AreBytes name) (plain : IsPlain name) where
   -- a name comes back
   opened : (raw : List ℕ) (c : Context) → IsGood raws c → raw_for raws c ≡ raw
-      → word_seen (Under raw (context_bytes c)) n (stored_form raws n (Some c) name) ≡ word_text name
+      → visible_word (Under raw (context_bytes c)) n (stored_form raws n (Some c) name) ≡ word_text name
   unfolding sealed_name
   opened raw c good own =
       let key = ap key_bytes (key_is raws raw c good own Names) in
@@ -127,39 +127,39 @@ module _ (back : NamesComeBack) (derives : DerivesBytes hash_sha512) (raws : Raw
       ∙ some_word stored name plain.0
 
   pub words_agree : (raw : Option (List ℕ)) (context : Option Context) → IsOnlyKey raws raw → IsGoodOrNone raws context
-      → word_seen (sight_of raw (option_map context_bytes context)) n (stored_form raws n context name) ≡ word_shown raws (option_map key_id_of raw) n context name
+      → visible_word (sight_of raw (option_map context_bytes context)) n (stored_form raws n context name) ≡ expected_word raws (option_map key_id_of raw) n context name
   words_agree raw None only good = refl
   words_agree None (Some c) only good = text_is raws n c name
   words_agree (Some raw) (Some c) only good = by_test (same_id (key_id_of raw) c.policy.id) refl
     where
       by_test : (b : Bool) → same_id (key_id_of raw) c.policy.id ≡ b
-          → word_seen (sight_of (Some raw) (Some (context_bytes c))) n (stored_form raws n (Some c) name) ≡ word_shown raws (Some (key_id_of raw)) n (Some c) name
+          → visible_word (sight_of (Some raw) (Some (context_bytes c))) n (stored_form raws n (Some c) name) ≡ expected_word raws (Some (key_id_of raw)) n (Some c) name
       by_test true t =
-          ap (λ s. word_seen s n (stored_form raws n (Some c) name)) (sight_is raws raw c good ∙ ap (λ b. if b then Under raw (context_bytes c) else Locked) t)
+          ap (λ s. visible_word s n (stored_form raws n (Some c) name)) (sight_is raws raw c good ∙ ap (λ b. if b then Under raw (context_bytes c) else Locked) t)
           ∙ opened raw c good (raw_is raws raw c only good t)
           ∙ ap (λ b. if b then word_text name else texts raws n c name) (sym t)
       by_test false t =
-          ap (λ s. word_seen s n (stored_form raws n (Some c) name)) (sight_is raws raw c good ∙ ap (λ b. if b then Under raw (context_bytes c) else Locked) t)
+          ap (λ s. visible_word s n (stored_form raws n (Some c) name)) (sight_is raws raw c good ∙ ap (λ b. if b then Under raw (context_bytes c) else Locked) t)
           ∙ text_is raws n c name
           ∙ ap (λ b. if b then word_text name else texts raws n c name) (sym t)
 
 module _ (come : ContentsComeBack) (derives : DerivesBytes hash_sha512) (raws : Raws) (n : ℕ) (contents : List ℕ) (bytes : AreBytes contents) where
   pub digests_agree : (raw : Option (List ℕ)) (context : Option Context) → IsOnlyKey raws raw → IsGoodOrNone raws context
-      → digest_seen (sight_of raw (option_map context_bytes context)) n (stored_blocks (contents_seal raws n context) contents) (length contents)
+      → visible_digest (sight_of raw (option_map context_bytes context)) n (stored_blocks (contents_seal raws n context) contents) (length contents)
       ≡ digest_shown (option_map key_id_of raw) context contents
   digests_agree raw None only good = ap (λ (l : List ℕ). Some (sha256 l)) (come None contents tt bytes)
   digests_agree None (Some c) only good = refl
   digests_agree (Some raw) (Some c) only good = by_test (same_id (key_id_of raw) c.policy.id) refl
     where
       by_test : (b : Bool) → same_id (key_id_of raw) c.policy.id ≡ b
-          → digest_seen (sight_of (Some raw) (Some (context_bytes c))) n (stored_blocks (contents_seal raws n (Some c)) contents) (length contents) ≡ digest_shown (Some (key_id_of raw)) (Some c) contents
+          → visible_digest (sight_of (Some raw) (Some (context_bytes c))) n (stored_blocks (contents_seal raws n (Some c)) contents) (length contents) ≡ digest_shown (Some (key_id_of raw)) (Some c) contents
       by_test true t =
           let blocks = stored_blocks (contents_seal raws n (Some c)) contents in
-          ap (λ s. digest_seen s n blocks (length contents)) (sight_is raws raw c good ∙ ap (λ b. if b then Under raw (context_bytes c) else Locked) t)
+          ap (λ s. visible_digest s n blocks (length contents)) (sight_is raws raw c good ∙ ap (λ b. if b then Under raw (context_bytes c) else Locked) t)
           ∙ ap (λ seal. Some (sha256 (read_contents seal (length contents) blocks))) (seal_is raws raw c good (raw_is raws raw c only good t) n)
           ∙ ap (λ (l : List ℕ). Some (sha256 l)) (come (contents_seal raws n (Some c)) contents (node_key_is_bytes derives raws c Contents) bytes)
           ∙ ap (λ b. if b then Some (sha256 contents) else None) (sym t)
       by_test false t =
           let blocks = stored_blocks (contents_seal raws n (Some c)) contents in
-          ap (λ s. digest_seen s n blocks (length contents)) (sight_is raws raw c good ∙ ap (λ b. if b then Under raw (context_bytes c) else Locked) t)
+          ap (λ s. visible_digest s n blocks (length contents)) (sight_is raws raw c good ∙ ap (λ b. if b then Under raw (context_bytes c) else Locked) t)
           ∙ ap (λ b. if b then Some (sha256 contents) else None) (sym t)

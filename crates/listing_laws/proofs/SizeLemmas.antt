@@ -13,8 +13,8 @@ use Rattle.std.proofs.lemmas.List.Elements.{All-head, All-tail}
 use Rattle.std.proofs.lemmas.List.Sums.{sum_by-cons}
 use Rattle.std.proofs.lemmas.Map.Made.{length-le_from_is_member}
 use Rattle.byte_words.specs.Bytes.{AreBytesOfLength}
-use Rattle.mount_limits.specs.declared.TheConstants.{BLOCK_SIZE, MOST_BLOCKS, MOST_FILE_BYTES, MOST_NODES}
-use Rattle.name_crypt.specs.declared.limits.TheConstants.{LEAST_STORED_BYTES, MOST_NAME_BYTES}
+use Rattle.mount_limits.specs.declared.TheConstants.{BLOCK_SIZE, MAX_BLOCKS, MAX_FILE_BYTES, MAX_NODES}
+use Rattle.name_crypt.specs.declared.limits.TheConstants.{MIN_STORED_BYTES, MAX_NAME_BYTES}
 use Rattle.text_words.specs.Numbers.{decimal_of}
 use Rattle.hex.specs.Hex.{encode_lower}
 use Rattle.number_map.specs.Numbered.{entries, len}
@@ -28,7 +28,7 @@ use Rattle.mount_model.specs.Blocks.{block_count, block_total}
 use Rattle.mount_model.specs.WellFormed.{IsWellFormed}
 use Rattle.mount_state.specs.Stored.{contents_seal}
 use Rattle.image_lines.specs.Image.{Image, ImageNode, all_entries, children_of, numbers_of}
-use Rattle.image_lines.specs.ImageText.{block_line, body_lines, context_text, ended, entry_line, header, image_text, line_of, node_line, node_lines, told_kind}
+use Rattle.image_lines.specs.ImageText.{block_line, body_lines, context_text, ended, entry_line, header, image_text, line_of, node_line, node_lines, kind_of_body}
 use Rattle.image_lines.specs.NodeRules.{IsBody, IsContext, IsEntry, IsNode}
 use Rattle.image_lines.specs.Rules.{HasGoodChildren, BeginsWithRoot, IsImage}
 use Rattle.image_lines.specs.StoredNames.{is_entry_name, is_stored, is_target, may_be_part}
@@ -36,7 +36,7 @@ use Rattle.image_lines.proofs.LineLaws.{context_length}
 use Rattle.tree_image.specs.Images.{mount_image}
 use Rattle.tree_image.proofs.LengthLemmas.{digits_are, line_longer, lines_longer}
 use Rattle.tree_listing.proofs.Members.{In, holds_in, in_from_contains}
-use Rattle.listing_laws.specs.Sizes.{IsShort, most_bytes}
+use Rattle.listing_laws.specs.Sizes.{IsShort, max_image_bytes}
 use Rattle.listing_laws.proofs.ChildrenLemmas.{of_mount}
 use Rattle.listing_laws.proofs.FormLemmas.{count_is}
 
@@ -45,18 +45,18 @@ use Rattle.listing_laws.proofs.FormLemmas.{count_is}
 number_short : (n : ℕ) → n < 2 ^ 32 → length (decimal_of n) ≤ 10
 number_short n small = length-decimal-le 10 n (lit< tt) (omega (arith, small)) (omega (arith, small))
 
-stored_short : (low : ℕ) (bytes : List ℕ) → is_stored low bytes ≡ true → length bytes ≤ MOST_NAME_BYTES
+stored_short : (low : ℕ) (bytes : List ℕ) → is_stored low bytes ≡ true → length bytes ≤ MAX_NAME_BYTES
 stored_short low bytes is =
-    let high : nat_le (length bytes) MOST_NAME_BYTES ≡ true = (and_parts (nat_le low (length bytes)) (nat_le (length bytes) MOST_NAME_BYTES) is).1 in
+    let high : nat_le (length bytes) MAX_NAME_BYTES ≡ true = (and_parts (nat_le low (length bytes)) (nat_le (length bytes) MAX_NAME_BYTES) is).1 in
     grind (arith, nat_tests)
 
-name_short : (under : Bool) (name : List ℕ) → is_entry_name under name ≡ true → length name ≤ MOST_NAME_BYTES
+name_short : (under : Bool) (name : List ℕ) → is_entry_name under name ≡ true → length name ≤ MAX_NAME_BYTES
 name_short false name is = stored_short 1 name (and_parts (is_stored 1 name) (may_be_part name) is).0
-name_short true name is = stored_short LEAST_STORED_BYTES name is
+name_short true name is = stored_short MIN_STORED_BYTES name is
 
-target_short : (under : Bool) (target : List ℕ) → is_target under target ≡ true → length target ≤ MOST_NAME_BYTES
+target_short : (under : Bool) (target : List ℕ) → is_target under target ≡ true → length target ≤ MAX_NAME_BYTES
 target_short false target is = stored_short 1 target is
-target_short true target is = stored_short LEAST_STORED_BYTES target is
+target_short true target is = stored_short MIN_STORED_BYTES target is
 
 context_short : (context : Option (List ℕ)) → IsContext context → length (context_text context) ≤ 80
 context_short None is = omega arith
@@ -138,11 +138,11 @@ link_words : (number context target : List ℕ) → length number ≤ 10 → len
 link_words number context target a b c = simp length-append (omega arith)
 
 line_short : (number : ℕ) (context : Option (List ℕ)) (b : Body) → number < 2 ^ 32 → IsContext context → IsBody (is_some context) b
-    → length (node_line (record { number = number; context = context; kind = told_kind b })) ≤ 612
+    → length (node_line (record { number = number; context = context; kind = kind_of_body b })) ≤ 612
 line_short number context (Dir es) small under is =
     dir_words (decimal_of number) (context_text context) (number_short number small) (context_short context under)
 line_short number context (File blocks size) small under is =
-    let few : size ≤ MOST_FILE_BYTES = is.0 in
+    let few : size ≤ MAX_FILE_BYTES = is.0 in
     file_words (decimal_of number) (context_text context) (decimal_of size) (number_short number small) (context_short context under)
     (number_short size (omega (arith, few)))
 line_short number context (Link target) small under is =
@@ -272,13 +272,13 @@ pub mount_image_short : (m : PlainMount) → IsImage (mount_image m) → IsWellF
 unfolding block_total
 mount_image_short m is well =
     let blocks = well.nodes.blocks in
-    let few : len m.nodes ≤ MOST_NODES = well.nodes.tree.room.few_nodes in
+    let few : len m.nodes ≤ MAX_NODES = well.nodes.tree.room.few_nodes in
     let whole = image_short (mount_image m) is in
     let own : total_blocks (mount_image m) ≤ block_total m.nodes = named_blocks m.raws (entries m.nodes) in
     let counted_nodes = len-entries m.nodes in
     let nodes : length (mount_image m) ≡ length (filter is_named (entries m.nodes)) = length-map (filter is_named (entries m.nodes)) (of_mount m.raws) in
     let named = few_named (entries m.nodes) in
-    let counted : length (image_text (mount_image m)) ≤ most_bytes MOST_NODES MOST_BLOCKS = omega (arith, whole, own, nodes, named, blocks, few, counted_nodes) in
+    let counted : length (image_text (mount_image m)) ≤ max_image_bytes MAX_NODES MAX_BLOCKS = omega (arith, whole, own, nodes, named, blocks, few, counted_nodes) in
     record {
       counted = counted;
       most = omega (arith, counted);

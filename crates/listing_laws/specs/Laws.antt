@@ -13,7 +13,7 @@ use Rattle.image_lines.specs.Reading.{image_read}
 use Rattle.image_lines.specs.Rules.{HasGoodChildren, IsImage}
 use Rattle.tree_image.specs.Images.{mount_image}
 use Rattle.tree_listing.specs.Listing.{IsListing}
-use Rattle.listing_laws.specs.Shown.{listing_shown}
+use Rattle.listing_laws.specs.Expected.{expected_listing}
 
 -- no other raw key of the same identifier was added
 abbrev pub IsOnlyKey : Raws → Option (List ℕ) → Type 0
@@ -26,10 +26,10 @@ ChildrenAreGood = (m : PlainMount) → IsWellFormed m → HasGoodChildren (mount
 
 -- the listing of a mount's image, with a raw key or without one, is what is visible of the mount with that
 -- key, or with none
-abbrev pub ListingsTell : Type 0
-ListingsTell = (m : PlainMount) → IsWellFormed m →
+abbrev pub ListingsAreOfMounts : Type 0
+ListingsAreOfMounts = (m : PlainMount) → IsWellFormed m →
     (raw : Option (List ℕ)) → IsOnlyKey m.raws raw → (text : List ℕ) →
-    IsListing (mount_image m) raw text ↔ (text ≡ listing_shown m (option_map key_id_of raw))
+    IsListing (mount_image m) raw text ↔ (text ≡ expected_listing m (option_map key_id_of raw))
 
 -- each nonce is 16 bytes
 abbrev pub HasNonces : Nodes → Type 0
@@ -45,8 +45,8 @@ MountImagesAreRead = (m : PlainMount) → IsWellFormed m → HasNonces m.nodes
     → image_read (image_text (mount_image m)) ≡ Ok (mount_image m)
 
 -- so what is listed of what is read from that text is what the mount shows
-abbrev pub MountsAreTold : Type 0
-MountsAreTold = (m : PlainMount) → IsWellFormed m → HasNonces m.nodes →
+abbrev pub MountImagesListMounts : Type 0
+MountImagesListMounts = (m : PlainMount) → IsWellFormed m → HasNonces m.nodes →
     (raw : Option (List ℕ)) → IsOnlyKey m.raws raw → (image : Image) (text : List ℕ) →
     image_read (image_text (mount_image m)) ≡ Ok image → IsListing image raw text →
-    text ≡ listing_shown m (option_map key_id_of raw)
+    text ≡ expected_listing m (option_map key_id_of raw)

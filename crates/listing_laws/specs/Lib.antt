@@ -1,5 +1,5 @@
 pub mod PlacedNames
-pub mod Shown
+pub mod Expected
 pub mod Laws
 pub mod Nonces
 pub mod Sizes

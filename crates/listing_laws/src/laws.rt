@@ -1,7 +1,7 @@
 //! Laws of the listings of mounts. These functions do nothing: their contracts are the laws.
 
-ghost use Rattle.listing_laws.specs.Laws.{ChildrenAreGood, ListingsTell};
-ghost use Rattle.listing_laws.specs.Laws.{MountImagesAreImages, MountImagesAreRead, MountsAreTold};
+ghost use Rattle.listing_laws.specs.Laws.{ChildrenAreGood, ListingsAreOfMounts};
+ghost use Rattle.listing_laws.specs.Laws.{MountImagesAreImages, MountImagesAreRead, MountImagesListMounts};
 
 use data_crypt::contents_come_back;
 use hmac_kdf::derived_keys_are_bytes;
@@ -11,8 +11,8 @@ use tree_listing::listings_are_one;
 
 /// The listing of a mount's image, with a raw key or without one, is what is visible of the mount with that
 /// key, or with none.
-pub fn listings_tell()
-    ensures { ListingsTell }
+pub fn listings_are_of_mounts()
+    ensures { ListingsAreOfMounts }
 {
     names_come_back();
     contents_come_back();
@@ -34,9 +34,9 @@ pub fn mount_images_are_images()
 
 /// Reading the text of a mount's image, and listing the result with a raw key or without one, gives what is
 /// visible of the mount.
-pub fn mounts_are_told()
-    ensures { MountsAreTold }
+pub fn mount_images_list_mounts()
+    ensures { MountImagesListMounts }
 {
     mount_images_are_images();
-    listings_tell();
+    listings_are_of_mounts();
 }

@@ -5,6 +5,6 @@ mod laws;
 mod nonces;
 mod sizes;
 
-pub use laws::{listings_tell, mount_images_are_images, mounts_are_told};
+pub use laws::{listings_are_of_mounts, mount_images_are_images, mount_images_list_mounts};
 pub use nonces::{call_carries_nonce, mounts_have_nonces};
-pub use sizes::{MOST_MOUNT_IMAGE_BYTES, mount_images_are_short};
+pub use sizes::{MAX_MOUNT_IMAGE_BYTES, mount_images_are_short};

@@ -7,9 +7,9 @@ use Rattle.std.proofs.lemmas.List.Elements.{All-nil, All-cons, All-append}
 use Rattle.std.proofs.lemmas.Nat.{mod_below}
 use Rattle.hex.specs.Hex.{IsBytes}
 use Rattle.script_words.specs.Keys.{IsKey}
-use Rattle.script_lang.specs.Asked.{IsAskable}
+use Rattle.script_lang.specs.CommandTasks.{IsAskable}
 use Rattle.script_lang.specs.declared.verb.Verb.TheVariants as verb
-use Rattle.load_gen.specs.Numbers.{next, drawn}
+use Rattle.load_gen.specs.Numbers.{next, upper_31_bits}
 use Rattle.load_gen.specs.Words.{key_byte, key, raw_key}
 use Rattle.load_gen.specs.Operations.{operation_of, operation}
 use Rattle.load_gen.specs.Callers.{first_verbs, operations, last_verbs, verbs}
@@ -66,7 +66,7 @@ All-operations : (count c x : ℕ) → c < 8 → All IsAskable (operations count
 unfolding operations
 All-operations zero c x few = All-nil IsAskable
 All-operations (suc count) c x few =
-    let r : ℕ = drawn (next x) in
+    let r : ℕ = upper_31_bits (next x) in
     All-cons IsAskable (operation c r) (operations count c (next x))
     (operation_of-askable c (r / 10 % 8) (r % 10) few (mod_below (r / 10) 8 (omega arith)) (mod_below r 10 (omega arith)))
     (All-operations count c (next x) few)

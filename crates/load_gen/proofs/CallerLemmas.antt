@@ -2,12 +2,12 @@
 use Rattle.std.proofs.Common.{◌≡◌, ℕ, zero, suc, ◌+◌, ◌-◌, ◌<◌, ◌≤◌, List, [], ◌∷◌, ◌++◌, length, refl, sym, ap, ◌∙◌, arith, length-append, append_assoc, append-nil}
 use Rattle.std.specs.List.{All}
 use Rattle.std.proofs.lemmas.List.Elements.{All-head, All-tail}
-use Rattle.script_lang.specs.Asked.{IsAskable}
-use Rattle.script_lang.specs.Spelled.{StandBehind}
-use Rattle.script_lang.specs.Writing.{line_behind}
+use Rattle.script_lang.specs.CommandTasks.{IsAskable}
+use Rattle.script_lang.specs.Spelled.{FollowInOrder}
+use Rattle.script_lang.specs.Writing.{first_free_line}
 use Rattle.script_lang.specs.declared.verb.Verb.{Verb}
 use Rattle.script_lang.specs.declared.verb.Verb.TheVariants as verb
-use Rattle.load_gen.specs.Numbers.{next, number_after, drawn}
+use Rattle.load_gen.specs.Numbers.{next, number_after, upper_31_bits}
 use Rattle.load_gen.specs.Operations.{operation}
 use Rattle.load_gen.specs.Words.{raw_key}
 use Rattle.load_gen.specs.Callers.{first_verbs, operations, last_verbs, verbs, in_lines}
@@ -26,18 +26,18 @@ length-verbs c x =
 
 -- ---- their lines
 
-pub StandBehind-in_lines : (n : ℕ) (verbs : List Verb) → All IsAskable verbs → StandBehind n (in_lines n verbs)
+pub StandBehind-in_lines : (n : ℕ) (verbs : List Verb) → All IsAskable verbs → FollowInOrder n (in_lines n verbs)
 StandBehind-in_lines n [] h = tt
 StandBehind-in_lines n (verb ∷ more) h =
     (omega arith, (All-head IsAskable verb more h, StandBehind-in_lines (n + 1) more (All-tail IsAskable verb more h)))
 
-pub line_behind-in_lines : (n : ℕ) (verbs : List Verb) → line_behind n (in_lines n verbs) ≡ n + length verbs
-line_behind-in_lines n [] = omega arith
-line_behind-in_lines n (verb ∷ more) = let behind = line_behind-in_lines (n + 1) more in omega arith
+pub first_free_line-in_lines : (n : ℕ) (verbs : List Verb) → first_free_line n (in_lines n verbs) ≡ n + length verbs
+first_free_line-in_lines n [] = omega arith
+first_free_line-in_lines n (verb ∷ more) = let numbers_after = first_free_line-in_lines (n + 1) more in omega arith
 
 -- ---- one command after the other
 
-pub operations-next : (left c x : ℕ) → operations (suc left) c x ≡ operation c (drawn (next x)) ∷ operations left c (next x)
+pub operations-next : (left c x : ℕ) → operations (suc left) c x ≡ operation c (upper_31_bits (next x)) ∷ operations left c (next x)
 unfolding operations
 operations-next left c x = refl
 
@@ -55,13 +55,13 @@ number_after-none x = refl
 
 -- the command of one number more
 pub goes_on : (made made' whole : List Verb) (i c x x' : ℕ) → i < 200 → x' ≡ next x
-    → made' ≡ made ++ operation c (drawn x') ∷ [] → made ++ operations (200 - i) c x ≡ whole
+    → made' ≡ made ++ operation c (upper_31_bits x') ∷ [] → made ++ operations (200 - i) c x ≡ whole
     → made' ++ operations (200 - (i + 1)) c x' ≡ whole
 goes_on made made' whole i c x x' within on grown before =
     let left : 200 - i ≡ suc (200 - (i + 1)) = omega arith in
     ap (λ l. l ++ operations (200 - (i + 1)) c x') grown
-    ∙ append_assoc made (operation c (drawn x') ∷ []) (operations (200 - (i + 1)) c x')
-    ∙ ap (λ y. made ++ operation c (drawn y) ∷ operations (200 - (i + 1)) c y) on
+    ∙ append_assoc made (operation c (upper_31_bits x') ∷ []) (operations (200 - (i + 1)) c x')
+    ∙ ap (λ y. made ++ operation c (upper_31_bits y) ∷ operations (200 - (i + 1)) c y) on
     ∙ ap (λ l. made ++ l) (sym (operations-next (200 - (i + 1)) c x) ∙ ap (λ n. operations n c x) (sym left))
     ∙ before
 

@@ -1,7 +1,7 @@
 -- One caller of a generated script.
 use Rattle.std.specs.Prelude.{ℕ, zero, suc, ◌+◌, ◌*◌, ◌%◌, List, [], ◌∷◌, ◌++◌, None}
 use Rattle.policy_ctx.specs.declared.policy.Pad.TheVariants.{P32}
-use Rattle.load_gen.specs.Numbers.{next, drawn}
+use Rattle.load_gen.specs.Numbers.{next, upper_31_bits}
 use Rattle.load_gen.specs.Words.{key, raw_key, directory, file}
 use Rattle.load_gen.specs.Operations.{operation}
 use Rattle.script_lang.specs.declared.commands.Command.{Command}
@@ -23,7 +23,7 @@ first_verbs c =
 -- own
 unfoldable pub operations : ℕ → ℕ → ℕ → List Verb
 operations zero c x = []
-operations (suc count) c x = operation c (drawn (next x)) ∷ operations count c (next x)
+operations (suc count) c x = operation c (upper_31_bits (next x)) ∷ operations count c (next x)
 
 -- the last commands of a caller
 abbrev pub last_verbs : ℕ → List Verb

@@ -16,5 +16,5 @@ unfoldable pub generated_script : ℕ → List Section
 generated_script number = sections 8 0 number
 
 -- its text
-abbrev pub generated : ℕ → List ℕ
-generated number = script_text (generated_script number)
+abbrev pub generated_text : ℕ → List ℕ
+generated_text number = script_text (generated_script number)

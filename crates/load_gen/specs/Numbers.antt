@@ -11,5 +11,5 @@ number_after zero x = x
 number_after (suc count) x = number_after count (next x)
 
 -- the value of a number: its upper 31 bits
-abbrev pub drawn : ℕ → ℕ
-drawn x = x / 2 ^ 33
+abbrev pub upper_31_bits : ℕ → ℕ
+upper_31_bits x = x / 2 ^ 33

@@ -49,7 +49,7 @@ fn verbs(alloc: Global, caller: u8, numbers: &mut Numbers) -> Result<Vec<Verb>, 
 {
     let mut verbs = first_verbs(alloc, caller)?;
     'drawn: for _ in 0..DRAWN {
-        let drawn = numbers.draw();
+        let drawn = numbers.next_upper_bits();
         verbs.push(operation(alloc, caller, drawn)?)?;
     }
     verbs.push(Verb::Close(0))?;

@@ -1,7 +1,7 @@
 //! The pseudorandom numbers by which a script's commands are chosen.
 
 ghost use Rattle.std.specs.Prelude.{◌≡◌};
-ghost use Rattle.load_gen.specs.Numbers.{drawn, next};
+ghost use Rattle.load_gen.specs.Numbers.{upper_31_bits, next};
 
 // Of the linear congruential generator modulo 2^64.
 const MULTIPLIER: u64 = 6364136223846793005;
@@ -16,7 +16,7 @@ pub(crate) struct Numbers {
 
 impl Numbers {
     // Returns the numbers after this one.
-    pub(crate) fn behind(number: u32) -> Numbers
+    pub(crate) fn numbers_after(number: u32) -> Numbers
         ensures { result.last ≡ number }
     {
         Numbers {
@@ -25,9 +25,9 @@ impl Numbers {
     }
 
     // Advances to the next number, and returns its upper 31 bits.
-    pub(crate) fn draw(&mut self) -> u64
+    pub(crate) fn next_upper_bits(&mut self) -> u64
         ensures gone_on { self.new.last ≡ next self.old.last }
-        ensures value { result ≡ drawn self.new.last }
+        ensures value { result ≡ upper_31_bits self.new.last }
     {
         self.last = self.last.wrapping_mul(MULTIPLIER).wrapping_add(INCREMENT);
         self.last >> 33

@@ -3,7 +3,7 @@
 ghost use Rattle.std.specs.Prelude.{◌≡◌, IfOk, Ok};
 ghost use Rattle.script_lang.specs.Script.{parsed_script};
 ghost use Rattle.script_lang.specs.Spelled.{IsSpelled};
-ghost use Rattle.load_gen.specs.Generated.{generated, generated_script};
+ghost use Rattle.load_gen.specs.Generated.{generated_text, generated_script};
 
 use crate::callers::section;
 use crate::numbers::Numbers;
@@ -16,7 +16,7 @@ const CALLERS: u8 = 8;
 
 /// Returns the text of the script that is generated from the number. The only error is out of memory.
 pub fn generate(alloc: Global, number: u32) -> Result<Bytes, AllocError>
-    ensures value { IfOk result (λ text. text ≡ generated number) }
+    ensures value { IfOk result (λ text. text ≡ generated_text number) }
     ensures reads_back { IfOk result (λ text. parsed_script text ≡ Ok (generated_script number)) }
 {
     let script = generate_script(alloc, number)?;
@@ -29,7 +29,7 @@ pub fn generate_script(alloc: Global, number: u32) -> Result<Script, AllocError>
     ensures value { IfOk result (λ script. script ≡ generated_script number) }
     ensures spelled { IfOk result (λ script. IsSpelled script) }
 {
-    let mut numbers = Numbers::behind(number);
+    let mut numbers = Numbers::numbers_after(number);
     let mut script = Items::new(alloc);
     'callers: for caller in 0..CALLERS {
         script.push(section(alloc, caller, &mut numbers)?)?;

@@ -4,7 +4,7 @@ ghost use Rattle.std.specs.Prelude.{◌≡◌, ◌<◌, Some, IfOk, IsSome};
 ghost use Rattle.script_words.specs.Path.{path_of};
 ghost use Rattle.load_gen.specs.Words as spec;
 
-use fsc_keys::{MOST_RAW_KEY_BYTES, RawKey};
+use fsc_keys::{MAX_RAW_KEY_BYTES, RawKey};
 use item_list::Bytes;
 use script_lang::{KeyRef, ScriptPath, read_path};
 use std::alloc::{AllocError, Global};
@@ -17,10 +17,10 @@ fn key_byte(caller: u8) -> u8
 }
 
 // The bytes of the key.
-fn key(caller: u8) -> [u8; MOST_RAW_KEY_BYTES]
+fn key(caller: u8) -> [u8; MAX_RAW_KEY_BYTES]
     ensures { result ≡ spec.key caller }
 {
-    [key_byte(caller); MOST_RAW_KEY_BYTES]
+    [key_byte(caller); MAX_RAW_KEY_BYTES]
 }
 
 // The key as a command adds it.

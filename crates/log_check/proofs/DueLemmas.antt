@@ -19,11 +19,11 @@ use Rattle.fsc_commands.specs.Steps.{next_of, names_in}
 use Rattle.fsc_commands.specs.Commands.{command_steps}
 use Rattle.fsc_session.specs.Session.{IsRunSoFar}
 use Rattle.next_calls.specs.Callers.{CallerView, call_of, steps_of}
-use Rattle.next_calls.specs.EntriesSoFar.{StandsIn}
-use Rattle.log_check.specs.declared.due.Due.{Due}
-use Rattle.log_check.specs.Due.{IsDue, IsDueLine, ComesOf, AreDueNotes}
-use Rattle.log_check.specs.DueCallers.{IsCallAt, IsWaiting, IsAnsweredLine, IsDueHere}
-use Rattle.log_check.specs.Reading.{IsCaller, StandBehind}
+use Rattle.next_calls.specs.EntriesSoFar.{IsCallerAfter}
+use Rattle.log_check.specs.declared.expected.Due.{Due}
+use Rattle.log_check.specs.Expected.{IsExpected, IsExpectedLine, ComesOf, AreExpectedNotes}
+use Rattle.log_check.specs.ExpectedCallers.{IsCallAt, IsWaiting, IsAnsweredLine, IsExpectedHere}
+use Rattle.log_check.specs.Reading.{IsCaller, CallersFollow}
 use Rattle.log_check.specs.Stops.{IsRead}
 use Rattle.log_check.proofs.FollowLemmas.{follows_on}
 use Rattle.log_check.proofs.ReadingLemmas.{next_of_caller}
@@ -42,14 +42,14 @@ comes_of : (seed : List ℕ) (script : List Section) (h : History) (number : ℕ
     → caller.waiting ≡ Some call → line ≡ line_at caller → IsCaller seed script h number caller → ComesOf seed script h (entry number call reply) line
 comes_of seed script h number caller call reply line waits is own = by_command (slice_get caller.section.commands caller.next) refl own.awaits.asks
   where
-    stands : StandsIn seed caller (entries_by number h)
-    stands = own.awaits.stands
+    is_after : IsCallerAfter seed caller (entries_by number h)
+    is_after = own.awaits.is_after
 
     asked : call_of caller ≡ Some (pair number call)
     asked = ap (option_map (λ (c : Call). pair caller.caller c)) waits ∙ ap (λ (n : ℕ). Some (pair n call)) own.numbered
 
     by_command : (found : Option Command) → slice_get caller.section.commands caller.next ≡ found
-        → next_of (steps_of seed caller found) (entries_of stands.made) ≡ call_of caller → ComesOf seed script h (entry number call reply) line
+        → next_of (steps_of seed caller found) (entries_of is_after.made) ≡ call_of caller → ComesOf seed script h (entry number call reply) line
     by_command None there asks = absurd (cc (asks ∙ asked))
     by_command (Some command) there asks = record {
       section = caller.section;
@@ -58,24 +58,24 @@ comes_of seed script h number caller call reply line waits is own = by_command (
       command = command;
       there = there;
       line_is = is ∙ ap (option_map (λ (c : Command). c.line)) there;
-      before = stands.before;
-      made = stands.made;
-      all = stands.all;
+      before = is_after.before;
+      made = is_after.made;
+      all = is_after.all;
       notes = caller.notes;
-      run = subst (λ (n : ℕ). IsRunSoFar seed n caller.section caller.next stands.before caller.notes) own.numbered stands.run;
-      asks = ap (λ (n : ℕ). next_of (command_steps seed n caller.section.uid caller.next (names_in stands.before) command.verb) (entries_of stands.made)) (sym own.numbered)
-          ∙ ap (λ names. next_of (command_steps seed caller.caller caller.section.uid caller.next names command.verb) (entries_of stands.made)) stands.names
+      run = subst (λ (n : ℕ). IsRunSoFar seed n caller.section caller.next is_after.before caller.notes) own.numbered is_after.run;
+      asks = ap (λ (n : ℕ). next_of (command_steps seed n caller.section.uid caller.next (names_in is_after.before) command.verb) (entries_of is_after.made)) (sym own.numbered)
+          ∙ ap (λ names. next_of (command_steps seed caller.caller caller.section.uid caller.next names command.verb) (entries_of is_after.made)) is_after.names
           ∙ asks ∙ asked;
     }
 
-module _ {M : Type 0} (led : History → M → Type 0) where
-  pub line_due : (led_lawful : (h : History) (mount : M) → led h mount → IsLawful h) (seed : List ℕ) (script : List Section) (whole rest : List ℕ)
+module _ {M : Type 0} (reached_by : History → M → Type 0) where
+  pub line_due : (reached_lawful : (h : History) (mount : M) → reached_by h mount → IsLawful h) (seed : List ℕ) (script : List Section) (whole rest : List ℕ)
       (place : ℕ) (h : History) (callers : List CallerView) (old new : M) (number who : ℕ) (call : Call) (line : List ℕ) (command : Option ℕ)
       → IsCallAt callers number (Some call) → ((caller : CallerView) → slice_get callers number ≡ Some caller → who ≡ caller.caller)
       → ((caller : CallerView) → slice_get callers number ≡ Some caller → command ≡ line_at caller)
-      → IsAnsweredLine led old new place who call line → IsRead false seed script whole place rest h → StandBehind led seed script h callers old
-      → IsDueLine seed script whole place line command
-  line_due led_lawful seed script whole rest place h callers old new number who call line command waits known placed answered read stand =
+      → IsAnsweredLine reached_by old new place who call line → IsRead false seed script whole place rest h → CallersFollow reached_by seed script h callers old
+      → IsExpectedLine seed script whole place line command
+  line_due reached_lawful seed script whole rest place h callers old new number who call line command waits known placed answered read stand =
       let own = stand.own.each number waits.0 waits.1 in
       let same : who ≡ number = known waits.0 waits.1 ∙ own.numbered in
       record {
@@ -85,7 +85,7 @@ module _ {M : Type 0} (led : History → M → Type 0) where
         long = read.long;
         follows = subst (λ (n : ℕ). Follows seed script (h ++ entry n call answered.reply ∷ [])) (sym same)
             (follows_on seed script h number waits.0.section call answered.reply read.follows own.section (next_of_caller seed script h number waits.0 call waits.2 own));
-        lawful = led_lawful (h ++ entry who call answered.reply ∷ []) new (answered.led_to h stand.led_to);
+        lawful = reached_lawful (h ++ entry who call answered.reply ∷ []) new (answered.reached_of_reply h stand.reached_of_reply);
         in_range = All-append EntryIsInRange h (entry who call answered.reply ∷ []) read.in_range
             (All-cons EntryIsInRange (entry who call answered.reply) [] answered.in_range (All-nil EntryIsInRange));
         memory = answered.memory;
@@ -96,7 +96,7 @@ module _ {M : Type 0} (led : History → M → Type 0) where
 
   pub notes_due : (seed : List ℕ) (script : List Section) (whole rest : List ℕ) (place : ℕ) (h : History) (callers : List CallerView) (mount : M)
       (notes : List ℕ) → IsWaiting callers None → notes ≡ notes_text (flat_map (λ (caller : CallerView). caller.notes) callers)
-      → IsRead false seed script whole place rest h → StandBehind led seed script h callers mount → AreDueNotes seed script whole place notes
+      → IsRead false seed script whole place rest h → CallersFollow reached_by seed script h callers mount → AreExpectedNotes seed script whole place notes
   notes_due seed script whole rest place h callers mount notes none is read stand =
       let nothing : AwaitNothing callers = λ n d within. none n (get_or callers n d) (slice_get-get_or callers n d within) in
       record {
@@ -110,7 +110,7 @@ module _ {M : Type 0} (led : History → M → Type 0) where
 
   -- so of what was read from the start on
   pub is_due : (seed : List ℕ) (script : List Section) (text : List ℕ) (place wanted : ℕ) (rest : List ℕ) (callers : List CallerView) (mount : M)
-      (due : Due) → place ≡ wanted → Stands false led seed script text place rest callers mount → IsDueHere led callers place rest mount due
-      → IsDue seed script text wanted due
-  is_due seed script text place wanted rest callers mount due same stands here =
-      subst (λ (n : ℕ). IsDue seed script text n due) same (here seed script text stands.0 stands.1 stands.2)
+      (due : Due) → place ≡ wanted → Stands false reached_by seed script text place rest callers mount → IsExpectedHere reached_by callers place rest mount due
+      → IsExpected seed script text wanted due
+  is_due seed script text place wanted rest callers mount due same is_after here =
+      subst (λ (n : ℕ). IsExpected seed script text n due) same (here seed script text is_after.0 is_after.1 is_after.2)

@@ -3,7 +3,7 @@ use Rattle.std.proofs.Common.{◌≡◌, ℕ, Bool, suc, ◌+◌, List, [], ◌�
 use Rattle.std.specs.Prelude.{All, slice_get, option_map}
 use Rattle.std.specs.List.{flat_map}
 use Rattle.std.proofs.lemmas.Option.{slice_get_within, get_or_from_slice_get, slice_get-get_or}
-use Rattle.call_history.specs.Entries.{by, numbered}
+use Rattle.call_history.specs.Entries.{by, entries_with_places}
 use Rattle.call_history.specs.Placed.{entries_of}
 use Rattle.mount_model.specs.declared.call.Call.{Call}
 use Rattle.mount_model.specs.Port.{PlacedCalls}
@@ -76,9 +76,9 @@ notes_alike seed k (section ∷ sections) (caller ∷ callers) placed long each 
 pub ended_notes : (seed : List ℕ) (script : List Section) (h : History) (callers : List CallerView) → AreCallers seed script h callers
     → AwaitNothing callers → notes_of seed script h ≡ flat_map (λ (caller : CallerView). caller.notes) callers
 ended_notes seed script h callers are nothing =
-    notes_alike seed 0 script callers (numbered 0 h) are.many (λ i caller section here there.
+    notes_alike seed 0 script callers (entries_with_places 0 h) are.many (λ i caller section here there.
     let none : i ≡ 0 + i = omega arith in
-    subst (λ (n : ℕ). caller.notes ≡ notes_of_section seed n section (by n (numbered 0 h))) none
+    subst (λ (n : ℕ). caller.notes ≡ notes_of_section seed n section (by n (entries_with_places 0 h))) none
     (caller_ran seed script h i caller section (are.each i caller here) there (awaits_nothing callers i caller nothing here)).1)
 
 -- ---- no run

@@ -2,7 +2,7 @@
 use Rattle.std.proofs.Common.{◌≡◌, ◌≢◌, ℕ, ◌+◌, Bool, cond, List, [], ◌∷◌, ◌++◌, length, Some, None, Option, refl, ap, sym, ◌∙◌, subst, arith, eq-eqb, ne_eqb, ⊎_elim, append-nil}
 use Rattle.std.specs.Prelude.{slice_get}
 use Rattle.std.proofs.lemmas.Bool.{cases_eq}
-use Rattle.call_history.specs.Entries.{entry, by, numbered}
+use Rattle.call_history.specs.Entries.{entry, by, entries_with_places}
 use Rattle.call_history.specs.Placed.{entries_of}
 use Rattle.call_history.proofs.Placing.{numbered-append, by-append}
 use Rattle.mount_model.specs.declared.call.Call.{Call}
@@ -62,8 +62,8 @@ none_next (Ask w asked more) (x ∷ es) value so = none_next (more x.reply) es v
 -- ---- a caller's entries
 
 -- those in two pieces of a history
-pub entries_by-append : (c : ℕ) (g h : History) → entries_by c (g ++ h) ≡ entries_by c g ++ by c (numbered (length g) h)
-entries_by-append c g h = ap (by c) (numbered-append 0 g h ∙ ap (λ (n : ℕ). numbered 0 g ++ numbered n h) (let e : 0 + length g ≡ length g = omega arith in e)) ∙ by-append c (numbered 0 g) (numbered (length g) h)
+pub entries_by-append : (c : ℕ) (g h : History) → entries_by c (g ++ h) ≡ entries_by c g ++ by c (entries_with_places (length g) h)
+entries_by-append c g h = ap (by c) (numbered-append 0 g h ∙ ap (λ (n : ℕ). entries_with_places 0 g ++ entries_with_places n h) (let e : 0 + length g ≡ length g = omega arith in e)) ∙ by-append c (entries_with_places 0 g) (entries_with_places (length g) h)
 
 by-own : (c k : ℕ) (e : MountEntry) (h : PlacedCalls) → e.who ≡ c → by c ((k, e) ∷ h) ≡ (k, e) ∷ by c h
 by-own c k e h is = ap (λ (b : Bool). cond b ((k, e) ∷ by c h) (by c h)) (eq-eqb e.who c is)
@@ -90,7 +90,7 @@ IsBegunBy-begun seed c (Some section) xs ys so =
 
 pub Follows-begun : (seed : List ℕ) (script : List Section) (g h : History) → Follows seed script (g ++ h) → Follows seed script g
 Follows-begun seed script g h follows c =
-    IsBegunBy-begun seed c (slice_get script c) (entries_by c g) (by c (numbered (length g) h))
+    IsBegunBy-begun seed c (slice_get script c) (entries_by c g) (by c (entries_with_places (length g) h))
     (subst (λ (xs : PlacedCalls). IsBegunBy seed c (slice_get script c) xs) (entries_by-append c g h) (follows c))
 
 begun_next : (seed : List ℕ) (c : ℕ) (at : Option Section) (section : Section) (placed : PlacedCalls) (place : ℕ) (call : Call) (reply : Reply) → at ≡ Some section

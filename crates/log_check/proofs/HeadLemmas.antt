@@ -5,7 +5,7 @@ use Rattle.text_words.specs.Numbers.{decimal_of}
 use Rattle.mount_model.specs.History.{MountEntry}
 use Rattle.reply_text.specs.Log.{entry_text}
 use Rattle.reply_text.specs.Ranges.{EntryIsInRange}
-use Rattle.reply_text.specs.Shown.{line_head}
+use Rattle.reply_text.specs.Logged.{line_head}
 use Rattle.reply_text.proofs.FieldLemmas.{number_field, no_space}
 use Rattle.reply_text.proofs.LineLemmas.{nothing_told}
 use Rattle.log_check.specs.Certificate.{BeginsWith}

@@ -18,14 +18,14 @@ use Rattle.mount_model.specs.Lawful.{IsLawful}
 use Rattle.script_lang.specs.declared.commands.Section.{Section}
 use Rattle.reply_text.specs.Log.{entry_text, log_text}
 use Rattle.reply_text.specs.Ranges.{EntryIsInRange}
-use Rattle.reply_text.specs.Shown.{line_head}
+use Rattle.reply_text.specs.Logged.{line_head}
 use Rattle.fsc_session.specs.Session.{next_call}
 use Rattle.next_calls.specs.Callers.{CallerView, call_of}
 use Rattle.next_calls.specs.EntriesSoFar.{Awaits}
 use Rattle.log_check.specs.Certificate.{IsPossible, BeginsWith}
-use Rattle.log_check.specs.NextLines.{IsWhose}
-use Rattle.log_check.specs.Reading.{IsCaller, StandBehind}
-use Rattle.log_check.specs.Replies.{IsReplied, IsUnreplied, ReplyHasMemory}
+use Rattle.log_check.specs.NextLines.{IsNextCaller}
+use Rattle.log_check.specs.Reading.{IsCaller, CallersFollow}
+use Rattle.log_check.specs.Replies.{ReadsReplyLine, IsUnreplied, ReplyHasMemory}
 use Rattle.log_check.specs.Stops.{IsRead, IsBlocked}
 use Rattle.log_check.proofs.FollowLemmas.{follows_next, follows_on, entries_by-own, entries_by-other}
 use Rattle.log_check.proofs.HeadLemmas.{has_head, same_caller}
@@ -69,7 +69,7 @@ last_of : {A : Type 0} (P : A → Type 0) (xs : List A) (y : A) → All P (xs ++
 last_of P [] y all = All-head P y [] all
 last_of P (x ∷ xs) y all = last_of P xs y (All-tail P x (xs ++ y ∷ []) all)
 
-pub whose_within : (callers : List CallerView) (place : ℕ) (text : List ℕ) (number : ℕ) (call : Call) → IsWhose callers place text (Some (pair number call)) → number < length callers
+pub whose_within : (callers : List CallerView) (place : ℕ) (text : List ℕ) (number : ℕ) (call : Call) → IsNextCaller callers place text (Some (pair number call)) → number < length callers
 whose_within callers place text number call whose = slice_get_within callers number whose.0 whose.1
 
 -- the caller that was read at the number
@@ -78,9 +78,9 @@ is_there callers number read caller at here = at ∙ get_or_from_slice_get calle
 
 -- ---- the next entry is its caller's next call
 
-module _ {M : Type 0} (strict : Bool) (led : History → M → Type 0) where
+module _ {M : Type 0} (strict : Bool) (reached_by : History → M → Type 0) where
   waits_for : (seed : List ℕ) (script : List Section) (h : History) (callers : List CallerView) (mount : M) (e : MountEntry)
-      → StandBehind led seed script h callers mount → IsPossible strict seed script (h ++ e ∷ [])
+      → CallersFollow reached_by seed script h callers mount → IsPossible strict seed script (h ++ e ∷ [])
       → (caller : CallerView) × (slice_get callers e.who ≡ Some caller) × (caller.waiting ≡ Some e.call) × (caller.caller ≡ e.who)
   waits_for seed script h callers mount e stand possible =
       let next = follows_next seed script h e possible.follows in
@@ -96,7 +96,7 @@ module _ {M : Type 0} (strict : Bool) (led : History → M → Type 0) where
 
   -- if no caller has the line that the text begins with, no entry continues the history
   pub blocked_unheard : (seed : List ℕ) (script : List Section) (place : ℕ) (text : List ℕ) (h : History) (callers : List CallerView) (mount : M)
-      → IsWhose callers place text None → StandBehind led seed script h callers mount → IsBlocked strict seed script h place text
+      → IsNextCaller callers place text None → CallersFollow reached_by seed script h callers mount → IsBlocked strict seed script h place text
   blocked_unheard seed script place text h callers mount whose stand e possible begins =
       let waits = waits_for seed script h callers mount e stand possible in
       whose e.who waits.0 waits.1 e.call waits.2
@@ -105,8 +105,8 @@ module _ {M : Type 0} (strict : Bool) (led : History → M → Type 0) where
   -- nor if a caller has it, but the mount has no reply of such a line
   pub blocked_unreplied : (seed : List ℕ) (script : List Section) (place : ℕ) (text : List ℕ) (h : History) (callers : List CallerView) (mount : M)
       (number who : ℕ) (call : Call) → who < 2 ^ 64 → ((caller : CallerView) → slice_get callers number ≡ Some caller → who ≡ caller.caller)
-      → IsWhose callers place text (Some (pair number call)) → IsUnreplied strict led mount text place who call
-      → StandBehind led seed script h callers mount → IsBlocked strict seed script h place text
+      → IsNextCaller callers place text (Some (pair number call)) → IsUnreplied strict reached_by mount text place who call
+      → CallersFollow reached_by seed script h callers mount → IsBlocked strict seed script h place text
   blocked_unreplied seed script place text h callers mount number who call small known whose so stand e possible begins =
       let found : CallerView = whose.0 in
       let same : who ≡ found.caller = known found whose.1 in
@@ -121,7 +121,7 @@ module _ {M : Type 0} (strict : Bool) (led : History → M → Type 0) where
       subst (λ (c : Call). IsPossible strict seed script (h ++ entry who c e.reply ∷ [])) asks (subst (λ (n : ℕ). IsPossible strict seed script (h ++ entry n e.call e.reply ∷ [])) who_is possible) in
       let line : BeginsWith text (entry_text place (entry who call e.reply)) =
       subst (λ (c : Call). BeginsWith text (entry_text place (entry who c e.reply))) asks (subst (λ (n : ℕ). BeginsWith text (entry_text place (entry n e.call e.reply))) who_is begins) in
-      so h stand.led_to e.reply may.legal may.agree (λ yes. last_of HasReply h e (possible.memory yes)) line
+      so h stand.reached_of_reply e.reply may.legal may.agree (λ yes. last_of HasReply h e (possible.memory yes)) line
 
 -- ---- a line that was read
 
@@ -175,13 +175,13 @@ read_on strict seed script whole text rest place h number caller call reply read
     e : MountEntry
     e = entry number call reply
 
-module _ {M : Type 0} (strict : Bool) (led : History → M → Type 0) (led_lawful : (h : History) (mount : M) → led h mount → IsLawful h) where
+module _ {M : Type 0} (strict : Bool) (reached_by : History → M → Type 0) (reached_lawful : (h : History) (mount : M) → reached_by h mount → IsLawful h) where
   stand_on : (seed : List ℕ) (script : List Section) (text rest : List ℕ) (place : ℕ) (h : History) (callers : List CallerView) (old new : M)
       (number : ℕ) (caller caller' : CallerView) (call : Call) (reply : Reply) → slice_get callers number ≡ Some caller → caller.waiting ≡ Some call
-      → TakesReply seed call reply caller caller' → IsReplied strict led old new text place number call reply rest
-      → StandBehind led seed script h callers old → StandBehind led seed script (h ++ entry number call reply ∷ []) (set callers number caller') new
-  stand_on seed script text rest place h callers old new number caller caller' call reply here waits takes replied stand = record {
-    led_to = replied.led_to h stand.led_to;
+      → TakesReply seed call reply caller caller' → ReadsReplyLine strict reached_by old new text place number call reply rest
+      → CallersFollow reached_by seed script h callers old → CallersFollow reached_by seed script (h ++ entry number call reply ∷ []) (set callers number caller') new
+  stand_on seed script text rest place h callers old new number caller caller' call reply here waits takes read_reply stand = record {
+    reached_of_reply = read_reply.reached_of_reply h stand.reached_of_reply;
     own = record {
       many = length-set callers number caller' ∙ stand.own.many;
       each = λ j other is. ⊎_elim
@@ -201,17 +201,17 @@ module _ {M : Type 0} (strict : Bool) (led : History → M → Type 0) (led_lawf
       (number who : ℕ) (caller' : CallerView) (call : Call) (reply : Reply) → place + 1 < 2 ^ 64
       → ((caller : CallerView) → slice_get callers number ≡ Some caller → (who ≡ caller.caller) × TakesReply seed call reply caller caller')
       → callers' ≡ set callers number caller'
-      → IsWhose callers place text (Some (pair number call)) → IsReplied strict led old new text place who call reply rest
-      → IsRead strict seed script whole place text h → StandBehind led seed script h callers old
-      → (e : MountEntry) × IsRead strict seed script whole (place + 1) rest (h ++ e ∷ []) × StandBehind led seed script (h ++ e ∷ []) callers' new
-  line_read seed script whole text rest place h callers callers' old new number who caller' call reply small known written whose replied read stand =
+      → IsNextCaller callers place text (Some (pair number call)) → ReadsReplyLine strict reached_by old new text place who call reply rest
+      → IsRead strict seed script whole place text h → CallersFollow reached_by seed script h callers old
+      → (e : MountEntry) × IsRead strict seed script whole (place + 1) rest (h ++ e ∷ []) × CallersFollow reached_by seed script (h ++ e ∷ []) callers' new
+  line_read seed script whole text rest place h callers callers' old new number who caller' call reply small known written whose read_reply read stand =
       let found : CallerView = whose.0 in
       let told = known found whose.1 in
       let own = stand.own.each number found whose.1 in
-      let given : IsReplied strict led old new text place number call reply rest =
-      subst (λ (n : ℕ). IsReplied strict led old new text place n call reply rest) (told.0 ∙ own.numbered) replied in
+      let given : ReadsReplyLine strict reached_by old new text place number call reply rest =
+      subst (λ (n : ℕ). ReadsReplyLine strict reached_by old new text place n call reply rest) (told.0 ∙ own.numbered) read_reply in
       let after = stand_on seed script text rest place h callers old new number found caller' call reply whose.1 whose.2.0 told.1 given stand in (
         entry number call reply,
-        read_on strict seed script whole text rest place h number found call reply read small own whose.2.0 given.line given.in_range (led_lawful (h ++ entry number call reply ∷ []) new after.led_to) given.memory,
-        subst (λ (cs : List CallerView). StandBehind led seed script (h ++ entry number call reply ∷ []) cs new) (sym written) after,
+        read_on strict seed script whole text rest place h number found call reply read small own whose.2.0 given.line given.in_range (reached_lawful (h ++ entry number call reply ∷ []) new after.reached_of_reply) given.memory,
+        subst (λ (cs : List CallerView). CallersFollow reached_by seed script (h ++ entry number call reply ∷ []) cs new) (sym written) after,
       )

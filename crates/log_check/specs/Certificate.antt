@@ -1,6 +1,6 @@
 -- Which histories a log can be of, and what the log of each is.
 use Rattle.std.specs.Prelude.{◌≡◌, ℕ, Bool, IsTrue, List, ◌++◌, All}
-use Rattle.mount_model.specs.History.{History, IsLegal, NeverWantsMemory}
+use Rattle.mount_model.specs.History.{History, IsLegal, NeverOutOfMemory}
 use Rattle.mount_model.specs.Lawful.{KeysAgree}
 use Rattle.script_lang.specs.declared.commands.Section.{Section}
 use Rattle.reply_text.specs.Ranges.{EntryIsInRange}
@@ -8,7 +8,7 @@ use Rattle.fsc_session.specs.Meaning.{Follows}
 
 -- if it is strict, nothing in the history is out of memory
 abbrev pub HasMemory : Bool → History → Type 0
-HasMemory strict history = IsTrue strict → NeverWantsMemory history
+HasMemory strict history = IsTrue strict → NeverOutOfMemory history
 
 -- What a log of the script with the seed may contain: each caller's entries are a beginning of a run of its
 -- section, the one-thread mount may reply so, and what a line shows is in the range of its type. No two

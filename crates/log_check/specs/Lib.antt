@@ -1,6 +1,6 @@
 pub mod Certificate
-pub mod Due
-pub mod DueCallers
+pub mod Expected
+pub mod ExpectedCallers
 pub mod Endings
 pub mod Laws
 pub mod NextLines

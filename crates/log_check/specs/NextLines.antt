@@ -4,11 +4,11 @@ use Rattle.mount_model.specs.declared.call.Call.{Call}
 use Rattle.mount_model.specs.Fits.{Fits}
 use Rattle.mount_model.specs.History.{MountEntry, History}
 use Rattle.script_lang.specs.declared.commands.Section.{Section}
-use Rattle.reply_text.specs.Shown.{line_head}
+use Rattle.reply_text.specs.Logged.{line_head}
 use Rattle.next_calls.specs.Callers.{CallerView}
 use Rattle.log_check.specs.Certificate.{BeginsWith}
 use Rattle.log_check.specs.Stops.{IsRead, IsBlocked}
-use Rattle.log_check.specs.Reading.{StandBehind}
+use Rattle.log_check.specs.Reading.{CallersFollow}
 
 -- the text begins with the place, the caller's number and the user of the call that it awaits a reply to
 abbrev pub HasLine : ℕ → List ℕ → CallerView → Call → Type 0
@@ -22,11 +22,11 @@ IsAwaited caller place text (Some call) =
     (caller.waiting ≡ Some call) × HasLine place text caller call × Fits call
 
 -- the caller whose line the text begins with, by its number, with that call; or that there is none
-abbrev pub IsWhose : List CallerView → ℕ → List ℕ → Option (ℕ × Call) → Type 0
-IsWhose callers place text None =
+abbrev pub IsNextCaller : List CallerView → ℕ → List ℕ → Option (ℕ × Call) → Type 0
+IsNextCaller callers place text None =
     (number : ℕ) (caller : CallerView) → slice_get callers number ≡ Some caller
     → IsAwaited caller place text None
-IsWhose callers place text (Some found) =
+IsNextCaller callers place text (Some found) =
     (caller : CallerView) × (slice_get callers found.0 ≡ Some caller)
     × IsAwaited caller place text (Some found.1)
 
@@ -34,14 +34,14 @@ IsWhose callers place text (Some found) =
 -- text began with; if none was, all is as before, except the mount, and no entry continues by such a line
 abbrev pub IsLineRead : {M : Type 0} → Bool → (History → M → Type 0) → List ℕ → List CallerView → ℕ → List ℕ
     → M → List CallerView → ℕ → List ℕ → M → Bool → Type 0
-IsLineRead strict led seed callers place text mount callers' place' text' mount' true =
+IsLineRead strict reached_by seed callers place text mount callers' place' text' mount' true =
     (length text' < length text) × (place' ≡ place + 1)
     × ((script : List Section) (whole : List ℕ) (history : History)
-    → IsRead strict seed script whole place text history → StandBehind led seed script history callers mount
+    → IsRead strict seed script whole place text history → CallersFollow reached_by seed script history callers mount
     → (e : MountEntry) × IsRead strict seed script whole place' text' (history ++ e ∷ [])
-    × StandBehind led seed script (history ++ e ∷ []) callers' mount')
-IsLineRead strict led seed callers place text mount callers' place' text' mount' false =
+    × CallersFollow reached_by seed script (history ++ e ∷ []) callers' mount')
+IsLineRead strict reached_by seed callers place text mount callers' place' text' mount' false =
     (callers' ≡ callers) × (place' ≡ place) × (text' ≡ text)
     × ((script : List Section) (whole : List ℕ) (history : History)
-    → IsRead strict seed script whole place text history → StandBehind led seed script history callers mount
+    → IsRead strict seed script whole place text history → CallersFollow reached_by seed script history callers mount
     → IsBlocked strict seed script history place text)

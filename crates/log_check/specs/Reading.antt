@@ -20,7 +20,7 @@ pub record AreCallers (seed : List ℕ) (script : List Section) (history : Histo
       → IsCaller seed script history number caller
 
 -- so they do, and the history may reach the mount
-pub record StandBehind {M : Type 0} (led : History → M → Type 0) (seed : List ℕ) (script : List Section)
+pub record CallersFollow {M : Type 0} (reached_by : History → M → Type 0) (seed : List ℕ) (script : List Section)
     (history : History) (callers : List CallerView) (mount : M) : Type 0 where
-  pub led_to : led history mount
+  pub reached_of_reply : reached_by history mount
   pub own : AreCallers seed script history callers

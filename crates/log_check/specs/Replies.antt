@@ -17,18 +17,18 @@ ReplyHasMemory strict reply = IsTrue strict → reply ≢ Refused NoMemory
 
 -- the text begins with the line of this reply to the caller's call, and the rest comes after it; and each
 -- history that may reach the mount before may, with this entry, reach it now
-pub record IsReplied {M : Type 0} (strict : Bool) (led : History → M → Type 0) (old new : M) (text : List ℕ)
+pub record ReadsReplyLine {M : Type 0} (strict : Bool) (reached_by : History → M → Type 0) (old new : M) (text : List ℕ)
     (place caller : ℕ) (call : Call) (reply : Reply) (rest : List ℕ) : Type 0 where
   pub line : text ≡ entry_text place (entry caller call reply) ++ rest
   pub in_range : EntryIsInRange (entry caller call reply)
   pub memory : ReplyHasMemory strict reply
-  pub led_to : (history : History) → led history old → led (history ++ entry caller call reply ∷ []) new
+  pub reached_of_reply : (history : History) → reached_by history old → reached_by (history ++ entry caller call reply ∷ []) new
 
 -- after a history that may reach the mount, the text begins with no line of a reply that the one-thread
 -- mount may have to the caller's call
 abbrev pub IsUnreplied : {M : Type 0} → Bool → (History → M → Type 0) → M → List ℕ → ℕ → ℕ → Call → Type 0
-IsUnreplied strict led mount text place caller call =
-    (history : History) → led history mount → (reply : Reply)
+IsUnreplied strict reached_by mount text place caller call =
+    (history : History) → reached_by history mount → (reply : Reply)
     → IsLegal (history ++ entry caller call reply ∷ [])
     → KeysAgree (history ++ entry caller call reply ∷ []) → ReplyHasMemory strict reply
     → ¬ BeginsWith text (entry_text place (entry caller call reply))

@@ -42,6 +42,6 @@ pub record IsRefusedAt (strict : Bool) (seed : List ℕ) (script : List Section)
   pub no_log : (other : History) → IsPossible strict seed script other → IsRunOf seed script other
       → text ≢ whole_log seed script other
 
-abbrev pub Says : Bool → List ℕ → List Section → List ℕ → Verdict → Type 0
-Says strict seed script text Certified = IsCertified strict seed script text
-Says strict seed script text (Refused place) = IsRefusedAt strict seed script text place
+abbrev pub IsVerdictOf : Bool → List ℕ → List Section → List ℕ → Verdict → Type 0
+IsVerdictOf strict seed script text Certified = IsCertified strict seed script text
+IsVerdictOf strict seed script text (Refused place) = IsRefusedAt strict seed script text place

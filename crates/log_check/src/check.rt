@@ -2,7 +2,7 @@
 
 ghost use Rattle.std.specs.Prelude.{◌≡◌, [], All, IfOk, length};
 ghost use Rattle.script_lang.specs.Spelled.{IsSpelled};
-ghost use Rattle.log_check.specs.Verdicts.{Says};
+ghost use Rattle.log_check.specs.Verdicts.{IsVerdictOf};
 
 use crate::one_thread::OneThread;
 use crate::reading::Reading;
@@ -40,8 +40,8 @@ pub fn check_log<S: Stretch, T: OneThread>(
 ) -> Result<Verdict, AllocError>
     requires ready { S.ready stretches.now }
     requires spelled { IsSpelled script.now }
-    requires led { T.led [] mount.old }
-    ensures { IfOk result (Says strict seed.now script.now text.now) }
+    requires reached_by { T.reached_by [] mount.old }
+    ensures { IfOk result (IsVerdictOf strict seed.now script.now text.now) }
 {
     let ways = remembering_ways(alloc, stretches, script.len())?;
     let said = read_log(alloc, ways.as_slice(), strict, script, seed, text, mount);
@@ -63,8 +63,8 @@ fn read_log<'w, S: Stretch, T: OneThread>(
     requires ready { All S.ready ways.now }
     requires ways { length ways.now ≡ length script.now }
     requires spelled { IsSpelled script.now }
-    requires led { T.led [] mount.old }
-    ensures { IfOk result (Says strict seed.now script.now text.now) }
+    requires reached_by { T.reached_by [] mount.old }
+    ensures { IfOk result (IsVerdictOf strict seed.now script.now text.now) }
 {
     let mut reading = Reading {
         callers: begin_callers(alloc, ways, script, seed)?,

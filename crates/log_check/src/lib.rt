@@ -3,17 +3,17 @@
 #![tactic(auto)]
 
 mod check;
-mod due;
 mod ending;
+mod expected;
 mod laws;
 mod lines;
+mod next_caller;
 mod one_thread;
+mod read_reply;
 mod reading;
-mod replied;
 mod start;
-mod whose;
 
 pub use check::{Verdict, check_log};
-pub use due::{Due, due_behind};
+pub use expected::{Due, expected_after};
 pub use laws::{logs_of_runs_are_not_refused, mounts_have_one_reply, next_calls_follow};
 pub use one_thread::OneThread;

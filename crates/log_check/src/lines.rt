@@ -3,7 +3,7 @@
 ghost use Rattle.std.specs.Prelude.{◌≡◌, ◌++◌, codes, IfOk, IsTrue, ◌↔◌, MatchOption};
 ghost use Rattle.log_check.specs.Certificate.{BeginsWith};
 ghost use Rattle.reply_text.specs.Log.{entry_text};
-ghost use Rattle.reply_text.specs.Shown.{line_head};
+ghost use Rattle.reply_text.specs.Logged.{line_head};
 
 use call_history::Entry;
 use item_list::Bytes;
@@ -13,7 +13,7 @@ use std::alloc::{AllocError, Global};
 use text_words::push_decimal;
 
 // Returns the text after the entry's line, if the text begins with that line.
-pub(crate) fn behind_line<'t>(
+pub(crate) fn rest_after_entry_line<'t>(
     alloc: Global,
     place: u64,
     entry: &Entry<Call, Reply>,

@@ -15,20 +15,20 @@ use mount_model::{Call, Reply};
 /// A mount that one thread alone calls, for all callers.
 pub trait OneThread {
     // Whether the history may reach it.
-    ghost led: { History → Self → Type 0 };
+    ghost reached_by: { History → Self → Type 0 };
 
     /// Answers the caller's call. Each history that may reach the mount before may, with this entry after
     /// it, reach it now.
     fn answer(&mut self, caller: u32, call: &Call) -> Reply
         requires fits { Fits call.now }
-        ensures led { (history : History) → led history self.old
-            → led (history ++ entry caller call.now result ∷ []) self.new };
+        ensures reached_by { (history : History) → reached_by history self.old
+            → reached_by (history ++ entry caller call.now result ∷ []) self.new };
 
     // Each history that may reach it is lawful.
-    ghost led_lawful: { (history : History) (mount : Self) → led history mount → IsLawful history };
+    ghost reached_lawful: { (history : History) (mount : Self) → reached_by history mount → IsLawful history };
 
     // A call that takes memory and was out of memory leaves it as it is.
     ghost led_without_memory: { (history : History) (mount : Self) (caller : ℕ) (call : Call)
-        → Fits call → IsTrue (takes_memory call.op) → led history mount
-        → led (history ++ entry caller call (Refused NoMemory) ∷ []) mount };
+        → Fits call → IsTrue (takes_memory call.op) → reached_by history mount
+        → reached_by (history ++ entry caller call (Refused NoMemory) ∷ []) mount };
 }

@@ -6,9 +6,9 @@ ghost use Rattle.log_check.specs.NextLines.{IsLineRead};
 
 use crate::check::Verdict;
 use crate::ending::is_ended;
+use crate::next_caller::next_caller_line;
 use crate::one_thread::OneThread;
-use crate::replied::replied;
-use crate::whose::whose_line;
+use crate::read_reply::read_reply;
 use argon_kdf::Stretch;
 use next_calls::{Caller, Remembering};
 use std::alloc::{AllocError, Global};
@@ -38,17 +38,17 @@ impl<'a, 't> Reading<'a, 't> {
         requires room { self.old.place + length self.old.rest.now < 2 ^ 64 }
         ensures many { length self.new.callers.items ≡ length self.old.callers.items }
         ensures room { self.new.place + length self.new.rest.now < 2 ^ 64 }
-        ensures read { IfOk result (IsLineRead strict T.led seed.now
+        ensures read { IfOk result (IsLineRead strict T.reached_by seed.now
             self.old.callers.items self.old.place self.old.rest.now mount.old
             self.new.callers.items self.new.place self.new.rest.now mount.new) }
     {
-        let found = whose_line(alloc, self.callers.as_slice(), self.place, self.rest)?;
+        let found = next_caller_line(alloc, self.callers.as_slice(), self.place, self.rest)?;
         let Some((number, call)) = found else {
             return Ok(false);
         };
         let caller = self.callers[number].caller();
-        let replied = replied(alloc, strict, self.place, caller, call, self.rest, mount)?;
-        let Some((reply, behind)) = replied else {
+        let read_reply = read_reply(alloc, strict, self.place, caller, call, self.rest, mount)?;
+        let Some((reply, behind)) = read_reply else {
             return Ok(false);
         };
         self.callers[number].take(alloc, &ways[number], seed, reply)?;

@@ -3,7 +3,7 @@
 ghost use Rattle.std.specs.Prelude.{◌≡◌, ◌≤◌, [], All, IfOk, length};
 ghost use Rattle.fsc_session.specs.Asking.{AsksRightly};
 ghost use Rattle.log_check.specs.Reading.{AreCallers};
-ghost use Rattle.script_lang.specs.declared.limits.TheConstants.{MOST_CALLERS};
+ghost use Rattle.script_lang.specs.declared.limits.TheConstants.{MAX_CALLERS};
 
 use argon_kdf::Stretch;
 use next_calls::{Caller, Remembering};
@@ -51,7 +51,7 @@ pub(crate) fn begin_callers<'a, 'w, S: Stretch>(
 ) -> Result<Vec<Caller<'a>>, AllocError>
     requires ready { All S.ready ways.now }
     requires ways { length ways.now ≡ length script.now }
-    requires few { length script.now ≤ MOST_CALLERS }
+    requires few { length script.now ≤ MAX_CALLERS }
     requires asked { All AsksRightly script.now }
     ensures { IfOk result (λ callers. AreCallers seed.now script.now [] callers.items) }
 {

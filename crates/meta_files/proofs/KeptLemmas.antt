@@ -9,7 +9,7 @@ use Rattle.std.proofs.lemmas.Grind.{common_steps}
 use Rattle.std.proofs.lemmas.List.Quantifiers.{position-Some}
 use Rattle.std.proofs.lemmas.List.{length-map}
 use Rattle.meta_files.specs.declared.files.Record.{Record}
-use Rattle.meta_files.specs.declared.files.TheConstants.{MOST_RECORD_BYTES}
+use Rattle.meta_files.specs.declared.files.TheConstants.{MAX_RECORD_BYTES}
 use Rattle.meta_files.specs.declared.fault.StoreFault.{StoreFault}
 use Rattle.meta_files.specs.Records.{RecordList, record_of, with_record}
 use Rattle.meta_files.specs.Indexed.{place_in}
@@ -106,18 +106,18 @@ module _ (name : List ℕ) (xs : List Record) (gone : position (λ kept. bytes_e
 -- ---- which fault is returned
 
 pub store_fault_there : (rs : RecordList) (name : List ℕ) (expected : ℕ) (bytes : List ℕ) (r : ℕ × List ℕ)
-    → length bytes ≤ MOST_RECORD_BYTES → record_of rs name ≡ Some r
+    → length bytes ≤ MAX_RECORD_BYTES → record_of rs name ≡ Some r
     → store_fault rs name expected bytes ≡ rewrite_fault r.0 expected
 store_fault_there rs name expected bytes r fits there =
-    let small : nat_lt MOST_RECORD_BYTES (length bytes) ≡ false =
-    le-ltb MOST_RECORD_BYTES (length bytes) fits in rw (small, there) refl
+    let small : nat_lt MAX_RECORD_BYTES (length bytes) ≡ false =
+    le-ltb MAX_RECORD_BYTES (length bytes) fits in rw (small, there) refl
 
 pub store_fault_new : (xs : List Record) (name : List ℕ) (expected : ℕ) (bytes : List ℕ)
-    → length bytes ≤ MOST_RECORD_BYTES → record_of (pairs_of xs) name ≡ None
+    → length bytes ≤ MAX_RECORD_BYTES → record_of (pairs_of xs) name ≡ None
     → store_fault (pairs_of xs) name expected bytes ≡ append_fault (length xs) expected
 store_fault_new xs name expected bytes fits gone =
-    let small : nat_lt MOST_RECORD_BYTES (length bytes) ≡ false =
-    le-ltb MOST_RECORD_BYTES (length bytes) fits in rw (small, gone, length-map) refl
+    let small : nat_lt MAX_RECORD_BYTES (length bytes) ≡ false =
+    le-ltb MAX_RECORD_BYTES (length bytes) fits in rw (small, gone, length-map) refl
 
 -- ---- as the calls see it: rs is the value in clauses of the records xs
 
@@ -131,7 +131,7 @@ module _ (rs : RecordList) (xs : List Record) (name : List ℕ) (view : pairs_of
   seen_new gone version bytes after is = ap pairs_of is ∙ (with_record_new name xs gone version bytes
       ∙ ap (λ l. with_record l name version bytes) view)
 
-  pub seen_new_fault : (expected : ℕ) (bytes : List ℕ) → length bytes ≤ MOST_RECORD_BYTES
+  pub seen_new_fault : (expected : ℕ) (bytes : List ℕ) → length bytes ≤ MAX_RECORD_BYTES
       → place_in xs name ≡ None → store_fault rs name expected bytes ≡ append_fault (length xs) expected
   seen_new_fault expected bytes fits gone = ap (λ l. store_fault l name expected bytes) (sym view)
       ∙ store_fault_new xs name expected bytes fits (record_of_None name xs gone)
@@ -151,7 +151,7 @@ module _ (rs : RecordList) (xs : List Record) (name : List ℕ) (view : pairs_of
         ∙ ap (λ l. with_record l name version bytes) view)
 
     pub seen_fault : (kept : Record) → kept ≡ get_or xs i kept → (expected : ℕ) (bytes : List ℕ)
-        → length bytes ≤ MOST_RECORD_BYTES → store_fault rs name expected bytes
+        → length bytes ≤ MAX_RECORD_BYTES → store_fault rs name expected bytes
         ≡ rewrite_fault kept.version expected
     seen_fault kept is expected bytes fits =
         store_fault_there rs name expected bytes (kept.version, kept.bytes) fits (seen_Some kept is)

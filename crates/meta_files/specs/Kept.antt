@@ -1,6 +1,6 @@
 -- How records are stored; definitions for private functions.
 use Rattle.std.specs.Prelude.{ℕ, List, map, Option, Some, None, not, ◌==◌, nat_le, if◌then◌else◌}
-use Rattle.meta_files.specs.declared.files.TheConstants.{MOST_RECORDS, LAST_VERSION}
+use Rattle.meta_files.specs.declared.files.TheConstants.{MAX_RECORDS, LAST_VERSION}
 use Rattle.meta_files.specs.declared.fault.StoreFault.{StoreFault}
 use Rattle.meta_files.specs.declared.fault.StoreFault.TheVariants.{Changed, NoSpace}
 use Rattle.meta_files.specs.declared.files.Record.{Record}
@@ -23,5 +23,5 @@ rewrite_fault version expected =
 abbrev pub append_fault : ℕ → ℕ → Option StoreFault
 append_fault count expected =
     if not (0 == expected) then Some (Changed 0) else
-    if nat_le MOST_RECORDS count then Some NoSpace else
+    if nat_le MAX_RECORDS count then Some NoSpace else
     None

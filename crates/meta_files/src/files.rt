@@ -14,10 +14,10 @@ use std::collections::BTreeMap;
 use std::marker::Model;
 
 /// The maximal number of bytes of a record.
-pub const MOST_RECORD_BYTES: usize = 8_192;
+pub const MAX_RECORD_BYTES: usize = 8_192;
 
 /// The maximal number of records.
-pub const MOST_RECORDS: usize = 1_024;
+pub const MAX_RECORDS: usize = 1_024;
 
 /// The last version that a record can have.
 pub const LAST_VERSION: u32 = 4_294_967_295;
@@ -109,7 +109,7 @@ impl MetaFiles {
         ensures accepted { IfNone (store_fault self.old name.now expected bytes.now)
             (IsOkUnless result StoreFault.NoMemory) }
     {
-        if bytes.len() > MOST_RECORD_BYTES {
+        if bytes.len() > MAX_RECORD_BYTES {
             return Err(StoreFault::TooBig);
         }
         let Some(place) = place_of(&self.index, name) else {
@@ -168,7 +168,7 @@ fn append(
         return Err(StoreFault::Changed { version: 0 });
     }
     let place = records.len();
-    if place >= MOST_RECORDS {
+    if place >= MAX_RECORDS {
         return Err(StoreFault::NoSpace);
     }
     let record = Record {

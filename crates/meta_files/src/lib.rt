@@ -8,6 +8,6 @@ mod laws;
 mod name_index;
 
 pub use fault::StoreFault;
-pub use files::{LAST_VERSION, MOST_RECORD_BYTES, MOST_RECORDS, MetaFiles};
+pub use files::{LAST_VERSION, MAX_RECORD_BYTES, MAX_RECORDS, MetaFiles};
 pub use item_list::Bytes;
 pub use laws::writing_changes_one_record;

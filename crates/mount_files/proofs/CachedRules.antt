@@ -8,7 +8,7 @@ use Rattle.user_claims.specs.Claims.{ClaimSet}
 use Rattle.user_claims.specs.ClaimCounts.{is_present}
 use Rattle.dentry_cache.specs.Names.{Pair, NameList}
 use Rattle.dentry_cache.specs.HeldNames.{HoldsNoMore}
-use Rattle.dentry_cache.specs.NameChanges.{dir_forgotten}
+use Rattle.dentry_cache.specs.NameChanges.{without_dir}
 use Rattle.dentry_cache.proofs.NameLemmas.{dir_no_more, dir_none}
 use Rattle.disk_tree.specs.DiskTree.{Disk}
 use Rattle.mount_model.specs.declared.handle.Handle.{Handle}
@@ -17,9 +17,9 @@ use Rattle.mount_model.specs.OpenHandles.{has_handle, opens_of}
 use Rattle.mount_state.specs.CachedNames.{NamesForget, is_dir_on_disk, is_dir_node}
 use Rattle.mount_state.specs.Contexts.{context_on_disk}
 use Rattle.mount_state.specs.Handles.{Handles, LosesOne, with_handle}
-use Rattle.mount_state.specs.Held.{is_unlocked, is_unlocked_under}
+use Rattle.mount_state.specs.KeyUse.{is_unlocked, is_unlocked_under}
 use Rattle.mount_state.proofs.CachedLemmas.{forget_when, keyed_more}
-use Rattle.mount_files.specs.Closed.{is_lasting, is_key_due, disk_left, names_left}
+use Rattle.mount_files.specs.Closing.{is_lasting, is_key_needed, disk_after_close, names_after_close}
 use Rattle.mount_files.proofs.HandleCounts.{more, held_more, held_others}
 
 -- ---- a handle comes
@@ -45,12 +45,12 @@ names_opened disk claims names handles left caller node rule (Err e) opened same
 -- ---- a handle goes
 
 -- no name comes
-pub fewer_names : (disk : Disk) (claims : ClaimSet) (names : NameList) (left : HandleList) (node : ℕ) → HoldsNoMore names (names_left disk claims names (has_handle left node) node)
-fewer_names disk claims names left node = by (has_handle left node || (is_lasting disk node && is_key_due claims (context_on_disk (get disk node))) || not (is_dir_on_disk disk node))
+pub fewer_names : (disk : Disk) (claims : ClaimSet) (names : NameList) (left : HandleList) (node : ℕ) → HoldsNoMore names (names_after_close disk claims names (has_handle left node) node)
+fewer_names disk claims names left node = by (has_handle left node || (is_lasting disk node && is_key_needed claims (context_on_disk (get disk node))) || not (is_dir_on_disk disk node))
   where
-    by : (b : Bool) → HoldsNoMore names (cond b names (dir_forgotten names node))
+    by : (b : Bool) → HoldsNoMore names (cond b names (without_dir names node))
     by true = λ pair held. held
-    by false = dir_no_more names (dir_forgotten names node) node refl
+    by false = dir_no_more names (without_dir names node) node refl
 
 module _ (disk : Disk) (claims : ClaimSet) (names : NameList) (live left : HandleList) (rule : NamesForget disk claims names live)
     (node : ℕ) (lost : LosesOne live left node) where
@@ -58,10 +58,10 @@ module _ (disk : Disk) (claims : ClaimSet) (names : NameList) (live left : Handl
   on = has_handle left node
 
   abbrev due : Bool
-  due = is_lasting disk node && is_key_due claims (context_on_disk (get disk node))
+  due = is_lasting disk node && is_key_needed claims (context_on_disk (get disk node))
 
   abbrev after : NameList
-  after = names_left disk claims names (has_handle left node) node
+  after = names_after_close disk claims names (has_handle left node) node
 
   elsewhere : (pair : Pair) → Contains after.pairs pair → (pair.0.dir ≢ node) ⊎ ((on || due) ≡ true)
   elsewhere pair held = by (on || due) (not (is_dir_on_disk disk node)) refl held
@@ -69,7 +69,7 @@ module _ (disk : Disk) (claims : ClaimSet) (names : NameList) (live left : Handl
       apart : is_dir_on_disk disk node ≡ false → Contains names.pairs pair → (pair.0.dir ≢ node)
       apart other was same = true≢false (sym (rule.there pair was) ∙ (ap (is_dir_on_disk disk) same ∙ other))
 
-      by : (stays other : Bool) → (not (is_dir_on_disk disk node)) ≡ other → Contains (cond (stays || other) names (dir_forgotten names node)).pairs pair
+      by : (stays other : Bool) → (not (is_dir_on_disk disk node)) ≡ other → Contains (cond (stays || other) names (without_dir names node)).pairs pair
           → (pair.0.dir ≢ node) ⊎ (stays ≡ true)
       by true other is was = inr refl
       by false true is was = inl (apart (negated (is_dir_on_disk disk node) is) was)
@@ -77,11 +77,11 @@ module _ (disk : Disk) (claims : ClaimSet) (names : NameList) (live left : Handl
           negated : (b : Bool) → not b ≡ true → b ≡ false
           negated true bad = absurd (true≢false (sym bad))
           negated false is = refl
-      by false false is was = inl (λ same. true≢false (sym (eq-eqb pair.0.dir node same) ∙ dir_none names (dir_forgotten names node) node refl pair was))
+      by false false is was = inl (λ same. true≢false (sym (eq-eqb pair.0.dir node same) ∙ dir_none names (without_dir names node) node refl pair was))
 
   -- the disk at other nodes, and at the node if it stays
-  disk_same : (d : ℕ) → (d ≢ node) ⊎ ((on || due) ≡ true) → get (disk_left disk (has_handle left node) node) d ≡ get disk d
-  disk_same d which = by on (is_lasting disk node) (is_key_due claims (context_on_disk (get disk node))) which
+  disk_same : (d : ℕ) → (d ≢ node) ⊎ ((on || due) ≡ true) → get (disk_after_close disk (has_handle left node) node) d ≡ get disk d
+  disk_same d which = by on (is_lasting disk node) (is_key_needed claims (context_on_disk (get disk node))) which
     where
       by : (held lasting key : Bool) → (d ≢ node) ⊎ ((held || (lasting && key)) ≡ true) → get (cond (held || lasting) disk (remove disk node)) d ≡ get disk d
       by true lasting key which = refl
@@ -105,13 +105,13 @@ module _ (disk : Disk) (claims : ClaimSet) (names : NameList) (live left : Handl
       here None is which = refl
       here (Some context) is (inl held) = or_right (is_present claims (id_in context)) on held
       here (Some context) is (inr both) =
-          or_left (is_present claims (id_in context)) on (sym (ap (is_key_due claims) is) ∙ second (is_lasting disk node) (is_key_due claims (context_on_disk (get disk node))) both)
+          or_left (is_present claims (id_in context)) on (sym (ap (is_key_needed claims) is) ∙ second (is_lasting disk node) (is_key_needed claims (context_on_disk (get disk node))) both)
         where
           second : (a b : Bool) → (a && b) ≡ true → b ≡ true
           second true b is = is
           second false b bad = absurd (true≢false (sym bad))
 
-  pub closed_names : NamesForget (disk_left disk (has_handle left node) node) claims (names_left disk claims names (has_handle left node) node) left
+  pub closed_names : NamesForget (disk_after_close disk (has_handle left node) node) claims (names_after_close disk claims names (has_handle left node) node) left
   closed_names = record {
     there = λ pair held.
         ap is_dir_node (disk_same pair.0.dir (elsewhere pair held)) ∙ rule.there pair (fewer_names disk claims names left node pair held);

@@ -12,7 +12,7 @@ use Rattle.number_map.proofs.NumberedLemmas.{remove_here, remove_other}
 use Rattle.key_ring.specs.Holding.{Holding, secret_of}
 use Rattle.key_ring.specs.Modes.{Modes, mode_at}
 use Rattle.key_ring.specs.declared.mode_key.ModeKey.{ModeKey}
-use Rattle.inode_refs.specs.Cached.{KeyMap}
+use Rattle.inode_refs.specs.CacheMaps.{KeyMap}
 use Rattle.plain_tree.specs.Nodes.{Node, Nodes}
 use Rattle.plain_tree.specs.NodesByNumber.{context_in, context_at, children, children_in, entry, is_named, is_named_in}
 use Rattle.plain_tree.specs.Facts.{AgreesBy}
@@ -21,10 +21,10 @@ use Rattle.disk_tree.specs.DiskTree.{Disk}
 use Rattle.mount_model.specs.declared.call.Op.TheVariants as op
 use Rattle.mount_model.specs.PlainMount.{PlainMount, HandleList, raw_in}
 use Rattle.mount_model.specs.OpenHandles.{node_of, has_handle, without_handle}
-use Rattle.mount_model.specs.Answered.{done}
+use Rattle.mount_model.specs.AnswerForms.{done}
 use Rattle.mount_model.specs.Sealed.{node_key}
 use Rattle.mount_model.specs.FileAnswers.{at_handle}
-use Rattle.mount_model.specs.CloseAnswers.{answer_to_close, with_closed, kept_by}
+use Rattle.mount_model.specs.CloseAnswers.{answer_to_close, with_closed, nodes_after_close}
 use Rattle.mount_model.specs.WellFormed.{IsWellFormed}
 use Rattle.mount_model.proofs.WellSteps.{step_well}
 use Rattle.mount_state.specs.StoredKinds.{kind_on_disk}
@@ -32,14 +32,14 @@ use Rattle.mount_state.specs.Contexts.{context_on_disk as stored_context}
 use Rattle.std.specs.Map.{lookup}
 use Rattle.std.specs.Str.{bytes_eq}
 use Rattle.dentry_cache.specs.Names.{Pair, NameList}
-use Rattle.mount_state.specs.CachedNames.{NamesStand}
+use Rattle.mount_state.specs.CachedNames.{RepresentsNames}
 use Rattle.mount_state.specs.Handles.{Handles}
 use Rattle.mount_state.specs.Stored.{stored_node}
-use Rattle.mount_state.specs.StandsFor.{StandsFor, TreeStands}
-use Rattle.mount_state.specs.CachedKeys.{CachesStand, plain_kind}
+use Rattle.mount_state.specs.Represents.{Represents, RepresentsTree}
+use Rattle.mount_state.specs.CachedKeys.{RepresentsCaches, plain_kind}
 use Rattle.mount_state.specs.declared.state.MountState.{MountState}
-use Rattle.mount_files.specs.Closed.{is_lasting, disk_left, modes_left_by, names_left, is_named_in as is_named_on}
-use Rattle.mount_files.specs.Opened.{SameButClosed, ClosesOne}
+use Rattle.mount_files.specs.Closing.{is_lasting, disk_after_close, modes_left_by, names_after_close, is_named_in as is_named_on}
+use Rattle.mount_files.specs.Opening.{SameButClosed, ClosesOne}
 use Rattle.mount_files.proofs.CachedRules.{fewer_names}
 use Rattle.mount_files.proofs.ClosedLemmas.{left_was}
 use Rattle.mount_files.proofs.ModeCounts.{released, each_released}
@@ -55,7 +55,7 @@ close_well m caller handle n well is =
 
 -- ---- which nodes are left
 
-module _ (disk : Disk) (next : ℕ) (m : PlainMount) (well : IsWellFormed m) (tree : TreeStands disk next m) (n : ℕ) where
+module _ (disk : Disk) (next : ℕ) (m : PlainMount) (well : IsWellFormed m) (tree : RepresentsTree disk next m) (n : ℕ) where
   named_lies : is_named_on (get disk n) ≡ is_named m.nodes n
   named_lies = ap is_named_on (tree.nodes n) ∙ named_stored (get m.nodes n)
     where
@@ -72,7 +72,7 @@ module _ (disk : Disk) (next : ℕ) (m : PlainMount) (well : IsWellFormed m) (tr
     | inr other ↦ ap (λ b. b || is_named_on (get disk n)) other ∙ named_lies
   ]
 
-  agree_left : (held : Bool) → AgreesBy (stored_node m.raws) (cond (is_named m.nodes n || held) m.nodes (remove m.nodes n)) (disk_left disk held n)
+  agree_left : (held : Bool) → AgreesBy (stored_node m.raws) (cond (is_named m.nodes n || held) m.nodes (remove m.nodes n)) (disk_after_close disk held n)
   agree_left held = at held (is_lasting disk n) (is_named m.nodes n) lasting_stands
     where
       at : (held lasting named : Bool) → lasting ≡ named
@@ -111,18 +111,18 @@ each_left P modes old kind (Some context) q k mode = by_flag (is_by_mode_in cont
 
 -- ---- the state represents the mount
 
-module _ (old new : MountState) (m : PlainMount) (caller handle n : ℕ) (st : StandsFor old m) (same : SameButClosed old new)
+module _ (old new : MountState) (m : PlainMount) (caller handle n : ℕ) (st : Represents old m) (same : SameButClosed old new)
     (closes : ClosesOne old new caller handle n) where
   live_is : new.handles.live ≡ without_handle caller handle m.handles
   live_is = ap (λ (h : Handles). h.live) closes.handles ∙ ap (without_handle caller handle) st.handles.live
 
-  nodes_stand : AgreesBy (stored_node m.raws) (kept_by (without_handle caller handle m.handles) m.nodes n) new.disk
+  nodes_stand : AgreesBy (stored_node m.raws) (nodes_after_close (without_handle caller handle m.handles) m.nodes n) new.disk
   nodes_stand =
-      subst (λ (d : Disk). AgreesBy (stored_node m.raws) (kept_by (without_handle caller handle m.handles) m.nodes n) d)
-      (sym (closes.disk ∙ ap (λ (l : HandleList). disk_left old.disk (has_handle l n) n) live_is))
+      subst (λ (d : Disk). AgreesBy (stored_node m.raws) (nodes_after_close (without_handle caller handle m.handles) m.nodes n) d)
+      (sym (closes.disk ∙ ap (λ (l : HandleList). disk_after_close old.disk (has_handle l n) n) live_is))
       (agree_left old.disk old.next_node m st.well st.tree n (has_handle (without_handle caller handle m.handles) n))
 
-  caches_stand : CachesStand new.inodes new.modes (with_closed m caller handle n)
+  caches_stand : RepresentsCaches new.inodes new.modes (with_closed m caller handle n)
   caches_stand = record {
     file_keys = λ q key c there under.
         let was = left_was old.inodes.keys n _ q key (sym (ap (λ (k : KeyMap). get k q) closes.keys) ∙ there) in
@@ -135,7 +135,7 @@ module _ (old new : MountState) (m : PlainMount) (caller handle n : ℕ) (st : S
         (sym (ap (λ (x : Modes). mode_at x id kind) closes.modes) ∙ there);
   }
 
-  names_stand : NamesStand new.names (with_closed m caller handle n).nodes
+  names_stand : RepresentsNames new.names (with_closed m caller handle n).nodes
   names_stand = record {
     entries = λ pair held.
         let was : Contains old.names.pairs pair =
@@ -143,7 +143,7 @@ module _ (old new : MountState) (m : PlainMount) (caller handle n : ℕ) (st : S
         entry_left (is_named m.nodes n) (has_handle (without_handle caller handle m.handles) n) refl pair (st.names.entries pair was);
   }
     where
-      fewer : {pair : Pair} → Contains (names_left old.disk old.ring.claims old.names (has_handle new.handles.live n) n).pairs pair → Contains old.names.pairs pair
+      fewer : {pair : Pair} → Contains (names_after_close old.disk old.ring.claims old.names (has_handle new.handles.live n) n).pairs pair → Contains old.names.pairs pair
       fewer {pair} held = fewer_names old.disk old.ring.claims old.names new.handles.live n pair held
 
       -- a node without name has no entries
@@ -156,7 +156,7 @@ module _ (old new : MountState) (m : PlainMount) (caller handle n : ℕ) (st : S
           let bad : None ≡ Some pair.1 = sym (ap (lookup (bytes_eq pair.0.name)) (ap (children m.nodes) same ∙ st.well.nodes.tree.names.nameless n is)) ∙ leads in absurd (cc)))
           ∙ leads
 
-  pub closed_stands : node_of m.handles caller handle ≡ Some n → StandsFor new (with_closed m caller handle n)
+  pub closed_stands : node_of m.handles caller handle ≡ Some n → Represents new (with_closed m caller handle n)
   closed_stands it = record {
     well = close_well m caller handle n st.well it;
     tree = record { nodes = nodes_stand; next = same.next_node ∙ st.tree.next };

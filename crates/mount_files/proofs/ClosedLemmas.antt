@@ -13,7 +13,7 @@ use Rattle.user_claims.specs.Claims.{ClaimSet}
 use Rattle.user_claims.specs.ClaimCounts.{is_present}
 use Rattle.key_ring.specs.Modes.{Modes, of_kind}
 use Rattle.key_ring.specs.ModeUsers.{users_in}
-use Rattle.inode_refs.specs.Cached.{Cache, KeyMap, key_at, pins_of, with_pins}
+use Rattle.inode_refs.specs.CacheMaps.{Cache, KeyMap, key_at, pins_of, with_pins}
 use Rattle.inode_refs.specs.declared.node_key.NodeKey.{NodeKey}
 use Rattle.disk_tree.specs.DiskTree.{Disk}
 use Rattle.mount_model.specs.declared.handle.Handle.{Handle}
@@ -24,7 +24,7 @@ use Rattle.mount_state.specs.StoredKinds.{kind_on_disk, same_kind, is_of_kind}
 use Rattle.mount_state.specs.Discipline.{Forgets, FileKeysForget, ModeKeysForget, PinsAreHandles}
 use Rattle.mount_state.specs.Handles.{users, handles_on, LosesOne}
 use Rattle.mount_state.specs.Safe.{IsSafe}
-use Rattle.mount_files.specs.Closed.{is_lasting, is_key_due, disk_left, keys_left, modes_left, modes_left_by}
+use Rattle.mount_files.specs.Closing.{is_lasting, is_key_needed, disk_after_close, keys_after_close, modes_after_close, modes_left_by}
 use Rattle.mount_files.proofs.HandleCounts.{one_if, same_others, one_here, held_others, was_held, pins_here, pins_other}
 use Rattle.mount_files.proofs.ContextUses.{none_unshared, own_unshared, shared_uses}
 use Rattle.mount_files.proofs.ModeCounts.{itself, released, is_it, users_released, each_released}
@@ -71,11 +71,11 @@ module _ (disk : Disk) (claims : ClaimSet) (cache : Cache) (modes : Modes) (live
   on = has_handle left node
 
   abbrev stays : Bool
-  stays = on || (is_lasting disk node && is_key_due claims (context_on_disk (get disk node)))
+  stays = on || (is_lasting disk node && is_key_needed claims (context_on_disk (get disk node)))
 
   -- the cache with one pin less, and what is left of the keys
   abbrev pub after : Cache
-  after = record { keys = keys_left disk claims cache.keys (has_handle left node) node; pins = with_pins cache.pins node (pins_of cache node - 1) }
+  after = record { keys = keys_after_close disk claims cache.keys (has_handle left node) node; pins = with_pins cache.pins node (pins_of cache node - 1) }
 
   pins_closed : length left ≤ length live → PinsAreHandles after left
   pins_closed fewer = record {
@@ -93,7 +93,7 @@ module _ (disk : Disk) (claims : ClaimSet) (cache : Cache) (modes : Modes) (live
   }
 
   -- the key that the node's context names is the one that its file key was derived from
-  due : (id : KeyId) (o : Option (List ℕ)) → has_own id o ≡ true → is_key_due claims o ≡ true → is_present claims id ≡ true
+  due : (id : KeyId) (o : Option (List ℕ)) → has_own id o ≡ true → is_key_needed claims o ≡ true → is_present claims id ≡ true
   due id None own is = absurd (true≢false (sym own))
   due id (Some context) own is =
       ap (is_present claims) (sym (same_id-eq (id_in context) id (and_parts (same_id (id_in context) id) (not (is_by_mode_in context)) own).0)) ∙ is
@@ -105,8 +105,8 @@ module _ (disk : Disk) (claims : ClaimSet) (cache : Cache) (modes : Modes) (live
     kept = λ q id own held. elim (cases_eq q node) [
       | inl same ↦
           let here : on ≡ true = ap (has_handle left) (sym same) ∙ held in
-          let all : keys_left disk claims cache.keys on node ≡ cache.keys =
-          ap (λ b. cond (b || (is_lasting disk node && is_key_due claims (context_on_disk (get disk node)))) cache.keys (remove cache.keys node)) here in
+          let all : keys_after_close disk claims cache.keys on node ≡ cache.keys =
+          ap (λ b. cond (b || (is_lasting disk node && is_key_needed claims (context_on_disk (get disk node)))) cache.keys (remove cache.keys node)) here in
           ap (λ (m : KeyMap). is_some (get m q)) all ∙ rule.file_keys.kept q id own (was_held live left node lost q held)
       | inr differ ↦
           ap (λ o. is_some o) (left_other cache.keys node stays q differ) ∙ rule.file_keys.kept q id own (was_held live left node lost q held)
@@ -114,12 +114,12 @@ module _ (disk : Disk) (claims : ClaimSet) (cache : Cache) (modes : Modes) (live
     forgotten = λ q k is.
         let was = left_was cache.keys node stays q k is in
         elim (cases_eq q node) [
-          | inl same ↦ elim (or_cases on (is_lasting disk node && is_key_due claims (context_on_disk (get disk node))) (was.1 same)) [
+          | inl same ↦ elim (or_cases on (is_lasting disk node && is_key_needed claims (context_on_disk (get disk node))) (was.1 same)) [
             | inl held ↦ or_right (is_present claims k.id) (has_handle left q) (ap (has_handle left) same ∙ held)
             | inr both ↦
                 or_left (is_present claims k.id) (has_handle left q)
                 (due k.id (context_on_disk (get disk node)) (ap (λ n. uses_own disk n k.id) (sym same) ∙ rule.file_keys.named q k was.0)
-                (and_parts (is_lasting disk node) (is_key_due claims (context_on_disk (get disk node))) both).1)
+                (and_parts (is_lasting disk node) (is_key_needed claims (context_on_disk (get disk node))) both).1)
           ]
           | inr differ ↦
               ap (λ b. is_present claims k.id || b) (held_others live left node lost q differ) ∙ rule.file_keys.forgotten q k was.0
@@ -164,7 +164,7 @@ module _ (disk : Disk) (claims : ClaimSet) (cache : Cache) (modes : Modes) (live
           (some (id_in context) (kind_on_disk (get disk node)) (uses (id_in context) (kind_on_disk (get disk node)) ∙ itself (id_in context) (kind_on_disk (get disk node))))
 
   closed : length left ≤ length live → ((id : KeyId) (kind : KeyKind) → uses_mode disk id kind node ≡ true → 1 ≤ users_in (of_kind modes kind) id)
-      → Forgets disk claims after (modes_left disk modes node) left
+      → Forgets disk claims after (modes_after_close disk modes node) left
   closed fewer some = record {
     file_keys = files_closed;
     mode_keys = at_context (context_on_disk (get disk node)) refl some;
@@ -215,21 +215,21 @@ module _ (live : HandleList) (node : ℕ) (free : has_handle live node ≡ false
 module _ (disk : Disk) (claims : ClaimSet) (cache : Cache) (modes : Modes) (live left : HandleList) (rule : Forgets disk claims cache modes live)
     (node : ℕ) (lost : LosesOne live left node) where
   pub closed_rule : length left ≤ length live → ((id : KeyId) (kind : KeyKind) → uses_mode disk id kind node ≡ true → 1 ≤ users_in (of_kind modes kind) id)
-      → Forgets (disk_left disk (has_handle left node) node) claims (after disk claims cache modes live left rule node lost) (modes_left disk modes node) left
+      → Forgets (disk_after_close disk (has_handle left node) node) claims (after disk claims cache modes live left rule node lost) (modes_after_close disk modes node) left
   closed_rule fewer some = by_case (has_handle left node) (is_lasting disk node) refl refl
     where
-      first : Forgets disk claims (after disk claims cache modes live left rule node lost) (modes_left disk modes node) left
+      first : Forgets disk claims (after disk claims cache modes live left rule node lost) (modes_after_close disk modes node) left
       first = closed disk claims cache modes live left rule node lost fewer some
 
       by_case : (held lasting : Bool) → has_handle left node ≡ held → is_lasting disk node ≡ lasting
-          → Forgets (cond (held || lasting) disk (remove disk node)) claims (after disk claims cache modes live left rule node lost) (modes_left disk modes node) left
+          → Forgets (cond (held || lasting) disk (remove disk node)) claims (after disk claims cache modes live left rule node lost) (modes_after_close disk modes node) left
       by_case true lasting held is = first
       by_case false true free is = first
       by_case false false free is =
-          gone left node free disk claims (after disk claims cache modes live left rule node lost) (modes_left disk modes node) first
-          (gone_here cache.keys node _ (λ i. free i || (is i && is_key_due claims (context_on_disk (get disk node)))))
+          gone left node free disk claims (after disk claims cache modes live left rule node lost) (modes_after_close disk modes node) first
+          (gone_here cache.keys node _ (λ i. free i || (is i && is_key_needed claims (context_on_disk (get disk node)))))
 
-  pub closed_is_safe : (next : ℕ) → IsSafe disk next live → IsSafe (disk_left disk (has_handle left node) node) next left
+  pub closed_is_safe : (next : ℕ) → IsSafe disk next live → IsSafe (disk_after_close disk (has_handle left node) node) next left
   closed_is_safe next safe = by_case (has_handle left node) (is_lasting disk node) refl
     where
       first : IsSafe disk next left

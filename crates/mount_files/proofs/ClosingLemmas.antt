@@ -8,7 +8,7 @@ use Rattle.user_claims.specs.ClaimCounts.{is_present}
 use Rattle.key_ring.specs.Holding.{Holding, HoldsClaimedSecrets}
 use Rattle.key_ring.specs.Modes.{Modes, of_kind}
 use Rattle.key_ring.specs.ModeUsers.{users_in, AreUsed}
-use Rattle.inode_refs.specs.Cached.{Cache, pins_of, with_pins}
+use Rattle.inode_refs.specs.CacheMaps.{Cache, pins_of, with_pins}
 use Rattle.inode_refs.specs.Evictions.{is_unpinned}
 use Rattle.disk_tree.specs.DiskTree.{Disk}
 use Rattle.mount_model.specs.PlainMount.{HandleList}
@@ -17,13 +17,13 @@ use Rattle.mount_model.specs.declared.reply.KeyState.TheVariants.{Absent, Presen
 use Rattle.mount_state.specs.Contexts.{uses_mode}
 use Rattle.mount_state.specs.Discipline.{Forgets}
 use Rattle.mount_state.specs.Handles.{Handles, without, handles_on, LosesOne}
-use Rattle.mount_state.specs.Held.{HoldsNothing, is_in_use, key_state}
+use Rattle.mount_state.specs.KeyUse.{HoldsNothing, is_in_use, key_state}
 use Rattle.mount_state.specs.Safe.{IsSafe}
 use Rattle.mount_state.proofs.RuleLemmas.{nothing_held, no_mode_key}
 use Rattle.mount_state.proofs.UserLemmas.{some_from, users_from, pins_tell}
 use Rattle.dentry_cache.specs.Names.{NameList}
 use Rattle.mount_state.specs.CachedNames.{NamesForget}
-use Rattle.mount_files.specs.Closed.{disk_left, keys_left, modes_left, names_left}
+use Rattle.mount_files.specs.Closing.{disk_after_close, keys_after_close, modes_after_close, names_after_close}
 use Rattle.mount_files.proofs.CachedRules.{closed_names, names_on}
 use Rattle.mount_files.proofs.ClosedLemmas.{after, closed_rule, closed_is_safe}
 use Rattle.mount_files.proofs.HandleCounts.{left_length, one_here, node_held, pins_here}
@@ -61,7 +61,7 @@ module _ (disk : Disk) (claims : ClaimSet) (cache : Cache) (modes : Modes) (hand
   result = after disk claims cache modes handles.live left.live rule node lost
 
   module _ (unpinned last : Cache) (is : unpinned ≡ record cache { pins = with_pins cache.pins node (pins_of cache node - 1) })
-      (last_is : last ≡ record unpinned { keys = keys_left disk claims unpinned.keys (not (is_unpinned unpinned node)) node }) where
+      (last_is : last ≡ record unpinned { keys = keys_after_close disk claims unpinned.keys (not (is_unpinned unpinned node)) node }) where
     held : not (is_unpinned unpinned node) ≡ has_handle left.live node
     held =
         let now : pins_of unpinned node ≡ pins_of cache node - 1 =
@@ -76,29 +76,29 @@ module _ (disk : Disk) (claims : ClaimSet) (cache : Cache) (modes : Modes) (hand
 
     pub cache_left : last ≡ after disk claims cache modes handles.live left.live rule node lost
     cache_left = last_is ∙ (λ i. record {
-      keys = keys_left disk claims (ap (λ (c : Cache). c.keys) is i) (held i) node;
+      keys = keys_after_close disk claims (ap (λ (c : Cache). c.keys) is i) (held i) node;
       pins = ap (λ (c : Cache). c.pins) is i;
     })
 
-    pub keys_are : last.keys ≡ keys_left disk claims cache.keys (has_handle left.live node) node
+    pub keys_are : last.keys ≡ keys_after_close disk claims cache.keys (has_handle left.live node) node
     keys_are = ap (λ (c : Cache). c.keys) cache_left
 
-    pub names_are : (names now : NameList) → now ≡ names_left disk claims names (not (is_unpinned last node)) node
-        → now ≡ names_left disk claims names (has_handle left.live node) node
-    names_are names now is = is ∙ ap (λ b. names_left disk claims names b node) last_held
+    pub names_are : (names now : NameList) → now ≡ names_after_close disk claims names (not (is_unpinned last node)) node
+        → now ≡ names_after_close disk claims names (has_handle left.live node) node
+    names_are names now is = is ∙ ap (λ b. names_after_close disk claims names b node) last_held
 
-    module _ (disk_now : Disk) (disk_is : disk_now ≡ disk_left disk (not (is_unpinned last node)) node) where
-      pub disk_now_is : disk_now ≡ disk_left disk (has_handle left.live node) node
-      disk_now_is = disk_is ∙ ap (λ b. disk_left disk b node) last_held
+    module _ (disk_now : Disk) (disk_is : disk_now ≡ disk_after_close disk (not (is_unpinned last node)) node) where
+      pub disk_now_is : disk_now ≡ disk_after_close disk (has_handle left.live node) node
+      disk_now_is = disk_is ∙ ap (λ b. disk_after_close disk b node) last_held
 
-      pub rule_left : (modes_now : Modes) → modes_now ≡ modes_left disk modes node → Forgets disk_now claims last modes_now left.live
+      pub rule_left : (modes_now : Modes) → modes_now ≡ modes_after_close disk modes node → Forgets disk_now claims last modes_now left.live
       rule_left modes_now modes_are =
           subst (λ (d : Disk). Forgets d claims last modes_now left.live) (sym disk_now_is)
-          (subst (λ (c : Cache). Forgets (disk_left disk (has_handle left.live node) node) claims c modes_now left.live) (sym cache_left)
-          (subst (λ (x : Modes). Forgets (disk_left disk (has_handle left.live node) node) claims result x left.live) (sym modes_are)
+          (subst (λ (c : Cache). Forgets (disk_after_close disk (has_handle left.live node) node) claims c modes_now left.live) (sym cache_left)
+          (subst (λ (x : Modes). Forgets (disk_after_close disk (has_handle left.live node) node) claims result x left.live) (sym modes_are)
           (closed_rule disk claims cache modes handles.live left.live rule node lost fewer in_use)))
 
-      pub names_forget : (names now : NameList) → NamesForget disk claims names handles.live → now ≡ names_left disk claims names (not (is_unpinned last node)) node
+      pub names_forget : (names now : NameList) → NamesForget disk claims names handles.live → now ≡ names_after_close disk claims names (not (is_unpinned last node)) node
           → NamesForget disk_now claims now left.live
       names_forget names now remembers is =
           names_on _ disk_now claims _ now left.live disk_now_is (names_are names now is) (closed_names disk claims names handles.live left.live remembers node lost)

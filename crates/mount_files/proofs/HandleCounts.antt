@@ -6,7 +6,7 @@ use Rattle.std.proofs.lemmas.List.Sums.{sum_by_push}
 use Rattle.std.proofs.lemmas.List.Folds.{list_any-append}
 use Rattle.number_map.specs.Numbered.{insert, remove}
 use Rattle.number_map.proofs.NumberedLemmas.{insert_here, insert_other, remove_here, remove_other}
-use Rattle.inode_refs.specs.Cached.{PinMap, pins_at, with_pins}
+use Rattle.inode_refs.specs.CacheMaps.{PinMap, pins_at, with_pins}
 use Rattle.mount_model.specs.declared.handle.Handle.{Handle}
 use Rattle.mount_model.specs.PlainMount.{HandleList}
 use Rattle.mount_model.specs.OpenHandles.{has_handle}

@@ -18,7 +18,7 @@ use Rattle.key_ring.specs.Holding.{Holding, secret_of, HoldsClaimedSecrets}
 use Rattle.key_ring.specs.Modes.{Modes, of_kind, mode_at}
 use Rattle.key_ring.specs.ModeUsers.{users_in}
 use Rattle.key_ring.specs.declared.mode_key.ModeKey.{ModeKey}
-use Rattle.inode_refs.specs.Cached.{Cache, KeyMap, key_at, given}
+use Rattle.inode_refs.specs.CacheMaps.{Cache, KeyMap, key_at, with_pinned_key}
 use Rattle.inode_refs.specs.declared.node_key.NodeKey.{NodeKey}
 use Rattle.plain_tree.specs.Nodes as plain
 use Rattle.plain_tree.specs.Nodes.{Node}
@@ -31,9 +31,9 @@ use Rattle.mount_model.specs.WellFormed.{IsWellFormed}
 use Rattle.mount_state.specs.Contexts.{context_on_disk, uses_own, uses_mode}
 use Rattle.mount_state.specs.StoredKinds.{kind_on_disk, is_of_kind, same_kind}
 use Rattle.mount_state.specs.Discipline.{Forgets}
-use Rattle.mount_state.specs.Held.{is_unlocked, is_unlocked_under}
+use Rattle.mount_state.specs.KeyUse.{is_unlocked, is_unlocked_under}
 use Rattle.mount_state.specs.Stored.{stored_node}
-use Rattle.mount_state.specs.StandsFor.{TreeStands, KeysStand}
+use Rattle.mount_state.specs.Represents.{RepresentsTree, RepresentsKeys}
 use Rattle.mount_state.specs.CachedKeys.{plain_kind, plain_kind_of}
 use Rattle.mount_state.proofs.StandLemmas.{context_is, id_sized}
 use Rattle.mount_state.proofs.UserLemmas.{some_from, users_from}
@@ -51,7 +51,7 @@ pub mode_kind : (kind : KeyKind) (raw : List ℕ) → is_of_kind kind (mode_key_
 mode_kind Contents raw = refl
 mode_kind Names raw = refl
 
-kind_lies : (disk : Disk) (next : ℕ) (m : PlainMount) → TreeStands disk next m → (node : ℕ) → kind_on_disk (get disk node) ≡ plain_kind (get m.nodes node)
+kind_lies : (disk : Disk) (next : ℕ) (m : PlainMount) → RepresentsTree disk next m → (node : ℕ) → kind_on_disk (get disk node) ≡ plain_kind (get m.nodes node)
 kind_lies disk next m tree node = ap kind_on_disk (tree.nodes node) ∙ at (get m.nodes node)
   where
     of_body : (context : Option Context) (named : Bool) (b : plain.Body)
@@ -75,7 +75,7 @@ none_need disk cache node none = record {
 
 -- ---- a node with a key of its own
 
-given_here : (keys : KeyMap) (node : ℕ) (key : NodeKey) → is_some (get (given keys node (Some key)) node) ≡ true
+given_here : (keys : KeyMap) (node : ℕ) (key : NodeKey) → is_some (get (with_pinned_key keys node (Some key)) node) ≡ true
 given_here keys node key = at (get keys node) refl
   where
     at : (o : Option NodeKey) → get keys node ≡ o → is_some (get (cond (is_none o) (insert keys node key) keys) node) ≡ true
@@ -137,7 +137,7 @@ module _ (disk : Disk) (cache : Cache) (node : ℕ) (context : List ℕ) (there 
 
   -- ---- it is the key of the mount's node
 
-  module _ (next : ℕ) (m : PlainMount) (well : IsWellFormed m) (tree : TreeStands disk next m) (ring : Holding) (keys : KeysStand ring m) (id : KeyId) (id_is : id ≡ id_in context)
+  module _ (next : ℕ) (m : PlainMount) (well : IsWellFormed m) (tree : RepresentsTree disk next m) (ring : Holding) (keys : RepresentsKeys ring m) (id : KeyId) (id_is : id ≡ id_in context)
       (raw : List ℕ) (secret : secret_of ring id ≡ Some raw) where
     added : (i : KeyId) → i ≡ id → unwrap_or (raw_in m.raws i) [] ≡ raw
     added i is = ap (λ k. unwrap_or (raw_in m.raws k) []) is ∙ ap (λ (o : Option (List ℕ)). unwrap_or o []) (keys.secrets id raw secret)

@@ -11,12 +11,12 @@ use Rattle.disk_tree.specs.Nodes.{IsDir, IsFile}
 use Rattle.mount_model.specs.declared.reply.Refusal.TheVariants.{IsDir as IsDirectory}
 use Rattle.mount_model.specs.PlainMount.{PlainMount, Raws, HandleList}
 use Rattle.mount_model.specs.OpenHandles.{is_handle, has_handle, node_of}
-use Rattle.mount_model.specs.Answered.{Answer, refused}
+use Rattle.mount_model.specs.AnswerForms.{Answer, refusal_with}
 use Rattle.mount_model.specs.FileAnswers.{at_handle, at_file}
 use Rattle.mount_model.specs.OpenAnswers.{is_link_at}
 use Rattle.mount_model.proofs.NodeParts.{link_in}
 use Rattle.mount_state.specs.Stored.{stored_node}
-use Rattle.mount_state.specs.StandsFor.{StandsFor}
+use Rattle.mount_state.specs.Represents.{Represents}
 use Rattle.mount_state.specs.CachedKeys.{plain_kind}
 use Rattle.mount_state.specs.declared.state.MountState.{MountState}
 use Rattle.mount_files.specs.OpenFile.{IsOpen}
@@ -63,7 +63,7 @@ dir_or_file raws n (Some v) there no_link no_dir no_file = at v.body no_link no_
     at (File contents) no_link no_dir no_file = no_file tt
     at (Link target) link no_dir no_file = true≢false link
 
-module _ (s : MountState) (m : PlainMount) (st : StandsFor s m) (caller handle : ℕ) where
+module _ (s : MountState) (m : PlainMount) (st : Represents s m) (caller handle : ℕ) where
   node_is : node_of s.handles.live caller handle ≡ node_of m.handles caller handle
   node_is = ap (λ (hs : HandleList). node_of hs caller handle) st.handles.live
 
@@ -95,5 +95,5 @@ module _ (s : MountState) (m : PlainMount) (st : StandsFor s m) (caller handle :
     pub answered_at : IsFileAt s.disk n → (f : ℕ → Answer) → at_file m caller handle f ≡ f n
     answered_at file f =
         let is = file_from m.raws n (get m.nodes n) (subst (of_node ⊥ (λ node. IsFile node.body)) (st.tree.nodes n) file) in
-        ap (λ o. at_handle m o (λ k. cond (is_dir_at m.nodes k) (refused m IsDirectory) (f k))) in_mount
-        ∙ ap (λ b. cond b (refused m IsDirectory) (f n)) is.1
+        ap (λ o. at_handle m o (λ k. cond (is_dir_at m.nodes k) (refusal_with m IsDirectory) (f k))) in_mount
+        ∙ ap (λ b. cond b (refusal_with m IsDirectory) (f n)) is.1

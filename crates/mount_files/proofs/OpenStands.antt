@@ -15,27 +15,27 @@ use Rattle.mount_model.specs.declared.reply.Reply.{Reply}
 use Rattle.mount_model.specs.declared.reply.Reply.TheVariants.{Opened, Refused}
 use Rattle.mount_model.specs.declared.reply.Refusal.{Refusal}
 use Rattle.mount_model.specs.declared.reply.Refusal.TheVariants.{Inval, NoKey, NoSpace}
-use Rattle.mount_model.specs.declared.limits.TheConstants.{MOST_HANDLES, MOST_OPENS}
+use Rattle.mount_model.specs.declared.limits.TheConstants.{MAX_HANDLES, MAX_OPENS}
 use Rattle.mount_model.specs.ClaimHistory.{is_refused}
 use Rattle.mount_model.specs.PlainMount.{PlainMount, Raws}
 use Rattle.mount_model.specs.OpenHandles.{opens_of}
 use Rattle.mount_model.specs.States.{is_keyed}
-use Rattle.mount_model.specs.Answered.{Answer, refused, at_node}
-use Rattle.mount_model.specs.OpenAnswers.{is_link_at, is_out_of_handles, opened_on, open_told, with_handle, answer_to_open}
-use Rattle.mount_model.specs.Walk.{PathParts, Walked, walked}
+use Rattle.mount_model.specs.AnswerForms.{Answer, refusal_with, at_node}
+use Rattle.mount_model.specs.OpenAnswers.{is_link_at, is_out_of_handles, opened_on, open_answer, with_handle, answer_to_open}
+use Rattle.mount_model.specs.Walk.{PathParts, WalkResult, walk_path}
 use Rattle.mount_model.specs.WellFormed.{IsWellFormed}
 use Rattle.mount_model.proofs.OpenLemmas.{opened_well}
 use Rattle.mount_model.proofs.WalkLemmas.{walked_reached}
-use Rattle.mount_state.specs.Given.{IsGivenOrNoMemory}
+use Rattle.mount_state.specs.AnswerOf.{IsAnswerOrNoMemory}
 use Rattle.dentry_cache.specs.Names.{NameList, NameList}
-use Rattle.mount_state.specs.CachedNames.{NamesStand, NamesStand}
+use Rattle.mount_state.specs.CachedNames.{RepresentsNames, RepresentsNames}
 use Rattle.mount_state.specs.Handles.{Handles, is_full, with_handle as with_new}
 use Rattle.mount_state.specs.SameButCaches.{SameButCaches}
 use Rattle.mount_state.specs.Stored.{stored_node, stored_body}
-use Rattle.mount_state.specs.StandsFor.{StandsFor, TreeStands, HandlesStand}
-use Rattle.mount_state.specs.CachedKeys.{CachesStand}
+use Rattle.mount_state.specs.Represents.{Represents, RepresentsTree, RepresentsHandles}
+use Rattle.mount_state.specs.CachedKeys.{RepresentsCaches}
 use Rattle.mount_state.specs.declared.state.MountState.{MountState}
-use Rattle.mount_files.specs.Opened.{is_link_body, OpensAsTold, OpensOne}
+use Rattle.mount_files.specs.Opening.{is_link_body, OpensWithNextHandle, OpensOne}
 
 -- ---- what is on the disk
 
@@ -51,7 +51,7 @@ link_alike raws n context (Dir cs) = refl
 link_alike raws n context (File contents) = refl
 link_alike raws n context (Link target) = refl
 
-module _ (disk : Disk) (next : ℕ) (m : PlainMount) (tree : TreeStands disk next m) (n : ℕ) where
+module _ (disk : Disk) (next : ℕ) (m : PlainMount) (tree : RepresentsTree disk next m) (n : ℕ) where
   pub lies_there : is_some (get disk n) ≡ is_some (get m.nodes n)
   lies_there = ap (λ o. is_some o) (tree.nodes n) ∙ there_alike (stored_node m.raws n) (get m.nodes n)
 
@@ -69,31 +69,31 @@ module _ (disk : Disk) (next : ℕ) (m : PlainMount) (tree : TreeStands disk nex
 -- ---- the answer
 
 module _ (m : PlainMount) (caller n : ℕ) where
-  pub told_link : is_link_at m.nodes n ≡ true → open_told m caller n ≡ refused m Inval
-  told_link link = λ i. cond (link i) (refused m Inval) (cond (not (is_keyed m n)) (refused m NoKey)
-      (cond (is_out_of_handles m caller) (refused m NoSpace) (opened_on m caller n)))
+  pub told_link : is_link_at m.nodes n ≡ true → open_answer m caller n ≡ refusal_with m Inval
+  told_link link = λ i. cond (link i) (refusal_with m Inval) (cond (not (is_keyed m n)) (refusal_with m NoKey)
+      (cond (is_out_of_handles m caller) (refusal_with m NoSpace) (opened_on m caller n)))
 
-  pub told_locked : is_link_at m.nodes n ≡ false → is_keyed m n ≡ false → open_told m caller n ≡ refused m NoKey
-  told_locked link locked = λ i. cond (link i) (refused m Inval) (cond (not (locked i)) (refused m NoKey)
-      (cond (is_out_of_handles m caller) (refused m NoSpace) (opened_on m caller n)))
+  pub told_locked : is_link_at m.nodes n ≡ false → is_keyed m n ≡ false → open_answer m caller n ≡ refusal_with m NoKey
+  told_locked link locked = λ i. cond (link i) (refusal_with m Inval) (cond (not (locked i)) (refusal_with m NoKey)
+      (cond (is_out_of_handles m caller) (refusal_with m NoSpace) (opened_on m caller n)))
 
-  pub told_full : is_link_at m.nodes n ≡ false → is_keyed m n ≡ true → is_out_of_handles m caller ≡ true → open_told m caller n ≡ refused m NoSpace
-  told_full link keyed full = λ i. cond (link i) (refused m Inval) (cond (not (keyed i)) (refused m NoKey)
-      (cond (full i) (refused m NoSpace) (opened_on m caller n)))
+  pub told_full : is_link_at m.nodes n ≡ false → is_keyed m n ≡ true → is_out_of_handles m caller ≡ true → open_answer m caller n ≡ refusal_with m NoSpace
+  told_full link keyed full = λ i. cond (link i) (refusal_with m Inval) (cond (not (keyed i)) (refusal_with m NoKey)
+      (cond (full i) (refusal_with m NoSpace) (opened_on m caller n)))
 
-  pub told_opened : is_link_at m.nodes n ≡ false → is_keyed m n ≡ true → is_out_of_handles m caller ≡ false → open_told m caller n ≡ opened_on m caller n
-  told_opened link keyed room = λ i. cond (link i) (refused m Inval) (cond (not (keyed i)) (refused m NoKey)
-      (cond (room i) (refused m NoSpace) (opened_on m caller n)))
+  pub told_opened : is_link_at m.nodes n ≡ false → is_keyed m n ≡ true → is_out_of_handles m caller ≡ false → open_answer m caller n ≡ opened_on m caller n
+  told_opened link keyed room = λ i. cond (link i) (refusal_with m Inval) (cond (not (keyed i)) (refusal_with m NoKey)
+      (cond (room i) (refusal_with m NoSpace) (opened_on m caller n)))
 
 -- a refusal that is returned, and the mount that it leaves
-pub refusal_given : (m : PlainMount) (answer : Answer) (refusal : Refusal) (s : MountState) → answer ≡ refused m refusal → StandsFor s m
-    → IsGivenOrNoMemory m answer (Refused refusal) s
+pub refusal_given : (m : PlainMount) (answer : Answer) (refusal : Refusal) (s : MountState) → answer ≡ refusal_with m refusal → Represents s m
+    → IsAnswerOrNoMemory m answer (Refused refusal) s
 refusal_given m answer refusal s is st = inl (
   sym (ap (λ (a : Answer). a.reply) is),
-  subst (StandsFor s) (sym (ap (λ (a : Answer). a.mount) is)) st,
+  subst (Represents s) (sym (ap (λ (a : Answer). a.mount) is)) st,
 )
 
-pub refusal_told : (m : PlainMount) (answer : Answer) (refusal : Refusal) → answer ≡ refused m refusal → Refused refusal ≡ answer.reply
+pub refusal_told : (m : PlainMount) (answer : Answer) (refusal : Refusal) → answer ≡ refusal_with m refusal → Refused refusal ≡ answer.reply
 refusal_told m answer refusal is = sym (ap (λ (a : Answer). a.reply) is)
 
 pub not_denied : (m : PlainMount) (caller n : ℕ) (answer : Answer) → answer ≡ opened_on m caller n → is_refused answer.reply ≡ true → ⊥
@@ -104,14 +104,14 @@ not_denied m caller n answer is denied = true≢false (sym denied ∙ ap (λ (a 
 pub open_well : (m : PlainMount) (caller n : ℕ) → IsWellFormed m → is_some (get m.nodes n) ≡ true → is_link_at m.nodes n ≡ false
     → is_out_of_handles m caller ≡ false → IsWellFormed (with_handle m caller n)
 open_well m caller n well there link free =
-    let room = or_parts (nat_le MOST_HANDLES (length m.handles)) (nat_le MOST_OPENS (opens_of m.opened caller)) free in
+    let room = or_parts (nat_le MAX_HANDLES (length m.handles)) (nat_le MAX_OPENS (opens_of m.opened caller)) free in
     record {
       keys = well.keys;
       nodes = well.nodes;
       handles = opened_well m.nodes m.handles m.opened well.handles caller n
           (λ k. there k && not (link k))
-          (leb-false MOST_HANDLES (length m.handles) room.0)
-          (leb-false MOST_OPENS (opens_of m.opened caller) room.1);
+          (leb-false MAX_HANDLES (length m.handles) room.0)
+          (leb-false MAX_OPENS (opens_of m.opened caller) room.1);
       records = well.records;
     }
 
@@ -120,14 +120,14 @@ named_there None is = is
 named_there (Some v) is = refl
 
 -- what a walk reached is there
-pub walked_there : (m : PlainMount) (path : PathParts) (n : ℕ) → IsWellFormed m → walked m path ≡ Ok n → is_some (get m.nodes n) ≡ true
+pub walked_there : (m : PlainMount) (path : PathParts) (n : ℕ) → IsWellFormed m → walk_path m path ≡ Ok n → is_some (get m.nodes n) ≡ true
 walked_there m path n well is =
     named_there (get m.nodes n) (reached_named m.nodes well.nodes.tree.root well.nodes.tree.names (walked_reached m path n is))
 
 -- ---- the state represents the mount
 
-pub opened_stands : (old new : MountState) (m : PlainMount) (caller n : ℕ) → StandsFor old m → OpensOne old new caller n
-    → CachesStand new.inodes new.modes m → new.names ≡ old.names → IsWellFormed (with_handle m caller n) → StandsFor new (with_handle m caller n)
+pub opened_stands : (old new : MountState) (m : PlainMount) (caller n : ℕ) → Represents old m → OpensOne old new caller n
+    → RepresentsCaches new.inodes new.modes m → new.names ≡ old.names → IsWellFormed (with_handle m caller n) → Represents new (with_handle m caller n)
 opened_stands old new m caller n st opens caches names well = record {
   well = well;
   tree = record {
@@ -145,11 +145,11 @@ opened_stands old new m caller n st opens caches names well = record {
         ∙ (λ i. insert (st.handles.opened i) caller (opens_of (st.handles.opened i) caller + 1));
   };
   caches = record { file_keys = caches.file_keys; mode_keys = caches.mode_keys };
-  names = subst (λ (x : NameList). NamesStand x m.nodes) (sym names) st.names;
+  names = subst (λ (x : NameList). RepresentsNames x m.nodes) (sym names) st.names;
   records = opens.same.meta ∙ st.records;
 }
 
-pub kept_stands : (old new : MountState) (m : PlainMount) → StandsFor old m → SameButCaches old new → CachesStand new.inodes new.modes m → new.names ≡ old.names → StandsFor new m
+pub kept_stands : (old new : MountState) (m : PlainMount) → Represents old m → SameButCaches old new → RepresentsCaches new.inodes new.modes m → new.names ≡ old.names → Represents new m
 kept_stands old new m st same caches names = record {
   well = st.well;
   tree = record {
@@ -165,21 +165,21 @@ kept_stands old new m st same caches names = record {
     opened = ap (λ (h : Handles). h.opened) same.handles ∙ st.handles.opened;
   };
   caches = caches;
-  names = subst (λ (x : NameList). NamesStand x m.nodes) (sym names) st.names;
+  names = subst (λ (x : NameList). RepresentsNames x m.nodes) (sym names) st.names;
   records = same.meta ∙ st.records;
 }
 
 -- the handle was opened under the number that the mount answers
 pub opened_given : (m : PlainMount) (caller n : ℕ) (answer : Answer) (number : ℕ) (new : MountState) → answer ≡ opened_on m caller n
-    → number ≡ opens_of m.opened caller → StandsFor new (with_handle m caller n) → IsGivenOrNoMemory m answer (Opened number) new
+    → number ≡ opens_of m.opened caller → Represents new (with_handle m caller n) → IsAnswerOrNoMemory m answer (Opened number) new
 opened_given m caller n answer number new is count st = inl (
   ap Opened count ∙ sym (ap (λ (a : Answer). a.reply) is),
-  subst (StandsFor new) (sym (ap (λ (a : Answer). a.mount) is)) st,
+  subst (Represents new) (sym (ap (λ (a : Answer). a.mount) is)) st,
 )
 
 -- the handle that is opened after a walk is the one more
-pub opened_after : (old walked new : MountState) (caller : ℕ) (reply : Reply) → SameButCaches old walked → OpensAsTold walked new caller reply → OpensAsTold old new caller reply
-opened_after old walked new caller reply same told = record {
+pub opened_after : (old walk_path new : MountState) (caller : ℕ) (reply : Reply) → SameButCaches old walk_path → OpensWithNextHandle walk_path new caller reply → OpensWithNextHandle old new caller reply
+opened_after old walk_path new caller reply same told = record {
   node = told.node;
   one = record {
     same = record {
@@ -200,15 +200,15 @@ opened_after old walked new caller reply same told = record {
 
 -- ---- at the node that the path resolves to
 
-module _ (m : PlainMount) (caller : ℕ) (path : PathParts) (n : ℕ) (led : Ok n ≡ walked m path) (reply : Reply) where
-  pub at_given : (new : MountState) → IsGivenOrNoMemory m (open_told m caller n) reply new → IsGivenOrNoMemory m (answer_to_open m caller path) reply new
-  at_given new given = subst (λ (w : Walked). IsGivenOrNoMemory m (at_node m w (open_told m caller)) reply new) led given
+module _ (m : PlainMount) (caller : ℕ) (path : PathParts) (n : ℕ) (led : Ok n ≡ walk_path m path) (reply : Reply) where
+  pub at_given : (new : MountState) → IsAnswerOrNoMemory m (open_answer m caller n) reply new → IsAnswerOrNoMemory m (answer_to_open m caller path) reply new
+  at_given new given = subst (λ (w : WalkResult). IsAnswerOrNoMemory m (at_node m w (open_answer m caller)) reply new) led given
 
-  pub at_denied : (is_refused (open_told m caller n).reply ≡ true → reply ≡ (open_told m caller n).reply)
+  pub at_denied : (is_refused (open_answer m caller n).reply ≡ true → reply ≡ (open_answer m caller n).reply)
       → is_refused (answer_to_open m caller path).reply ≡ true → reply ≡ (answer_to_open m caller path).reply
-  at_denied = subst (λ (w : Walked). (is_refused (open_told m caller n).reply ≡ true → reply ≡ (open_told m caller n).reply)
-      → is_refused (at_node m w (open_told m caller)).reply ≡ true → reply ≡ (at_node m w (open_told m caller)).reply) led (λ denied. denied)
+  at_denied = subst (λ (w : WalkResult). (is_refused (open_answer m caller n).reply ≡ true → reply ≡ (open_answer m caller n).reply)
+      → is_refused (at_node m w (open_answer m caller)).reply ≡ true → reply ≡ (at_node m w (open_answer m caller)).reply) led (λ denied. denied)
 
-pub out_stands : (handles : Handles) (m : PlainMount) → HandlesStand handles m → (caller : ℕ) → is_full handles caller ≡ is_out_of_handles m caller
+pub out_stands : (handles : Handles) (m : PlainMount) → RepresentsHandles handles m → (caller : ℕ) → is_full handles caller ≡ is_out_of_handles m caller
 out_stands handles m st caller =
-    λ i. nat_le MOST_HANDLES (length (st.live i)) || nat_le MOST_OPENS (opens_of (st.opened i) caller)
+    λ i. nat_le MAX_HANDLES (length (st.live i)) || nat_le MAX_OPENS (opens_of (st.opened i) caller)

@@ -9,11 +9,11 @@ use Rattle.number_map.proofs.NumberedLemmas.{insert_here, insert_other}
 use Rattle.user_claims.specs.Claims.{ClaimSet}
 use Rattle.user_claims.specs.ClaimCounts.{is_present}
 use Rattle.key_ring.specs.Modes.{Modes}
-use Rattle.inode_refs.specs.Cached.{Cache, KeyMap, pins_of, with_pins, given}
+use Rattle.inode_refs.specs.CacheMaps.{Cache, KeyMap, pins_of, with_pins, with_pinned_key}
 use Rattle.inode_refs.specs.declared.node_key.NodeKey.{NodeKey}
 use Rattle.disk_tree.specs.DiskTree.{Disk}
 use Rattle.mount_model.specs.declared.handle.Handle.{Handle}
-use Rattle.mount_model.specs.declared.limits.TheConstants.{MOST_HANDLES}
+use Rattle.mount_model.specs.declared.limits.TheConstants.{MAX_HANDLES}
 use Rattle.mount_model.specs.PlainMount.{HandleList}
 use Rattle.mount_model.specs.OpenHandles.{has_handle}
 use Rattle.mount_state.specs.Contexts.{uses_own, uses_mode}
@@ -40,7 +40,7 @@ module _ (keys : KeyMap) (node : ℕ) where
 
   -- a key that is cached was cached before, or is the one that was added
   pub given_was : (P : NodeKey → Type 0) (key : Option NodeKey) → IfSome key P → (q : ℕ) (found : NodeKey)
-      → get (given keys node key) q ≡ Some found → (get keys q ≡ Some found) ⊎ ((q ≡ node) × P found)
+      → get (with_pinned_key keys node key) q ≡ Some found → (get keys q ≡ Some found) ⊎ ((q ≡ node) × P found)
   given_was P None fresh q found is = inl is
   given_was P (Some k) fresh q found is = elim (given_new k (is_none (get keys node)) refl q found is) [
     | inl old ↦ inl old
@@ -54,7 +54,7 @@ module _ (keys : KeyMap) (node : ℕ) where
     | inr differ ↦ ap (λ o. is_some o) (insert_other keys node k q differ) ∙ there
   ]
 
-  given_still : (key : Option NodeKey) (q : ℕ) → is_some (get keys q) ≡ true → is_some (get (given keys node key) q) ≡ true
+  given_still : (key : Option NodeKey) (q : ℕ) → is_some (get keys q) ≡ true → is_some (get (with_pinned_key keys node key) q) ≡ true
   given_still None q there = there
   given_still (Some k) q there = still k (is_none (get keys node)) q there
 
@@ -68,13 +68,13 @@ module _ (disk : Disk) (claims : ClaimSet) (cache : Cache) (modes : Modes) (live
 
   -- the node has its key with this one, if it has one of its own
   abbrev pub IsKeyed : Option NodeKey → Type 0
-  IsKeyed key = (id : KeyId) → uses_own disk h.node id ≡ true → is_some (get (given cache.keys h.node key) h.node) ≡ true
+  IsKeyed key = (id : KeyId) → uses_own disk h.node id ≡ true → is_some (get (with_pinned_key cache.keys h.node key) h.node) ≡ true
 
   -- the cache with a pin more, and the key that comes with it
   abbrev pub pinned : Option NodeKey → Cache
-  pinned key = record { keys = given cache.keys h.node key; pins = with_pins cache.pins h.node (pins_of cache h.node + 1) }
+  pinned key = record { keys = with_pinned_key cache.keys h.node key; pins = with_pins cache.pins h.node (pins_of cache h.node + 1) }
 
-  pins_opened : (key : Option NodeKey) → length live < MOST_HANDLES → PinsAreHandles (pinned key) (more live h)
+  pins_opened : (key : Option NodeKey) → length live < MAX_HANDLES → PinsAreHandles (pinned key) (more live h)
   pins_opened key room = record {
     pinned = λ q. elim (cases_eq q h.node) [
       | inl same ↦
@@ -112,7 +112,7 @@ module _ (disk : Disk) (claims : ClaimSet) (cache : Cache) (modes : Modes) (live
       | inl old ↦ given_still cache.keys h.node key q (rule.file_keys.kept q id own old)
       | inr new ↦
           let here : h.node ≡ q = eqb-true h.node q new in
-          ap (λ n. is_some (get (given cache.keys h.node key) n)) (sym here) ∙ keyed id (ap (λ n. uses_own disk n id) here ∙ own)
+          ap (λ n. is_some (get (with_pinned_key cache.keys h.node key) n)) (sym here) ∙ keyed id (ap (λ n. uses_own disk n id) here ∙ own)
     ];
     forgotten = λ q k is. elim (given_was cache.keys h.node IsForNode key fresh q k is) [
       | inl old ↦ elim (or_cases (is_present claims k.id) (has_handle live q) (rule.file_keys.forgotten q k old)) [
@@ -149,7 +149,7 @@ module _ (disk : Disk) (claims : ClaimSet) (cache : Cache) (modes : Modes) (live
     kind = λ q k mode there. each_held (λ i x y. is_of_kind x y ≡ true) modes rule.mode_keys.kind id kind key fits q k mode there;
   }
 
-  pub opened_own : (key : Option NodeKey) → length live < MOST_HANDLES → IfSome key IsForNode → IsKeyed key
+  pub opened_own : (key : Option NodeKey) → length live < MAX_HANDLES → IfSome key IsForNode → IsKeyed key
       → ((id : KeyId) (kind : KeyKind) → uses_mode disk id kind h.node ≡ false) → Forgets disk claims (pinned key) modes (more live h)
   opened_own key room fresh keyed none = record {
     file_keys = files_opened key fresh keyed;
@@ -157,7 +157,7 @@ module _ (disk : Disk) (claims : ClaimSet) (cache : Cache) (modes : Modes) (live
     pins = pins_opened key room;
   }
 
-  pub opened_shared : (id : KeyId) (kind : KeyKind) (key : FileKey) → length live < MOST_HANDLES
+  pub opened_shared : (id : KeyId) (kind : KeyKind) (key : FileKey) → length live < MAX_HANDLES
       → ((q : KeyId) → uses_own disk h.node q ≡ false) → ((q : KeyId) (k : KeyKind) → uses_mode disk q k h.node ≡ is_it id kind q k)
       → is_of_kind kind key ≡ true → Forgets disk claims (pinned None) (held modes id kind key) (more live h)
   opened_shared id kind key room none uses fits = record {

@@ -12,13 +12,13 @@ use Rattle.number_map.specs.Numbered.{get, remove}
 use Rattle.user_claims.specs.Claims.{ClaimSet}
 use Rattle.key_ring.specs.Modes.{Modes}
 use Rattle.key_ring.specs.ModeUsers.{users_of}
-use Rattle.inode_refs.specs.Cached.{Cache, PinMap, key_at, pins_of, with_pins, given}
+use Rattle.inode_refs.specs.CacheMaps.{Cache, PinMap, key_at, pins_of, with_pins, with_pinned_key}
 use Rattle.inode_refs.specs.declared.node_key.NodeKey.{NodeKey}
 use Rattle.inode_refs.proofs.CacheLemmas.{given_cached, taken_back, no_key}
 use Rattle.plain_tree.specs.NodesByNumber.{context_at}
 use Rattle.disk_tree.specs.DiskTree.{Disk}
 use Rattle.mount_model.specs.declared.handle.Handle.{Handle}
-use Rattle.mount_model.specs.declared.limits.TheConstants.{MOST_HANDLES, MOST_OPENS}
+use Rattle.mount_model.specs.declared.limits.TheConstants.{MAX_HANDLES, MAX_OPENS}
 use Rattle.mount_model.specs.PlainMount.{PlainMount, HandleList, raw_in}
 use Rattle.mount_model.specs.OpenHandles.{opens_of}
 use Rattle.mount_model.specs.Sealed.{node_key}
@@ -26,7 +26,7 @@ use Rattle.mount_state.specs.Contexts.{uses_mode}
 use Rattle.mount_state.specs.Discipline.{Forgets}
 use Rattle.mount_state.specs.Handles.{Handles, is_full, users, with_handle}
 use Rattle.mount_state.specs.Safe.{IsSafe}
-use Rattle.mount_state.specs.CachedKeys.{CachesStand, plain_kind}
+use Rattle.mount_state.specs.CachedKeys.{RepresentsCaches, plain_kind}
 use Rattle.mount_files.specs.Needs.{IsOwnNeed, IsSharedNeed}
 use Rattle.mount_files.proofs.HandleCounts.{one_if, pins_here}
 use Rattle.mount_files.proofs.ModeCounts.{held, each_held}
@@ -59,18 +59,18 @@ module _ (disk : Disk) (claims : ClaimSet) (cache : Cache) (modes : Modes) (live
       let second = users_few (uses_mode disk id Names) live in
       omega arith
 
-pub room_left : (handles : Handles) (caller : ℕ) → is_full handles caller ≡ false → length handles.live < MOST_HANDLES
-room_left handles caller room = leb-false MOST_HANDLES (length handles.live) (or_parts (nat_le MOST_HANDLES (length handles.live)) (nat_le MOST_OPENS (opens_of handles.opened caller)) room).0
+pub room_left : (handles : Handles) (caller : ℕ) → is_full handles caller ≡ false → length handles.live < MAX_HANDLES
+room_left handles caller room = leb-false MAX_HANDLES (length handles.live) (or_parts (nat_le MAX_HANDLES (length handles.live)) (nat_le MAX_OPENS (opens_of handles.opened caller)) room).0
 
 -- ---- a pin that is removed again, with the key that was added with it
 
 pub unpinned : (cache : Cache) (node : ℕ) (key : Option NodeKey) (cached : Bool) → cached ≡ is_some (key_at cache node) → (after : Cache)
-    → after ≡ record { keys = given cache.keys node key; pins = with_pins cache.pins node (pins_of cache node + 1) }
+    → after ≡ record { keys = with_pinned_key cache.keys node key; pins = with_pins cache.pins node (pins_of cache node + 1) }
     → with_pins after.pins node (pins_of cache node) ≡ cache.pins
     → record { keys = cond cached after.keys (remove after.keys node); pins = with_pins after.pins node (pins_of after node - 1) } ≡ cache
 unpinned cache node key cached is after after_is back = λ i. record { keys = keys_same i; pins = pins_same i }
   where
-    by_case : (b : Bool) → b ≡ is_some (key_at cache node) → cond b (given cache.keys node key) (remove (given cache.keys node key) node) ≡ cache.keys
+    by_case : (b : Bool) → b ≡ is_some (key_at cache node) → cond b (with_pinned_key cache.keys node key) (remove (with_pinned_key cache.keys node key) node) ≡ cache.keys
     by_case true there = given_cached cache.keys node key (sym there)
     by_case false none = taken_back cache.keys node key (no_key (key_at cache node) (sym none))
 
@@ -93,7 +93,7 @@ module _ (disk : Disk) (claims : ClaimSet) (next : ℕ) (cache : Cache) (handles
   new = record { caller = caller; number = opens_of handles.opened caller; node = node }
 
   abbrev pub opened_with : Option NodeKey → Cache
-  opened_with key = record { keys = given cache.keys node key; pins = with_pins cache.pins node (pins_of cache node + 1) }
+  opened_with key = record { keys = with_pinned_key cache.keys node key; pins = with_pins cache.pins node (pins_of cache node + 1) }
 
   own_opened : (modes : Modes) → Forgets disk claims cache modes handles.live → (key : Option NodeKey) → IsOwnNeed disk cache node key
       → Forgets disk claims (opened_with key) modes (with_handle handles caller node).live
@@ -130,9 +130,9 @@ module _ (disk : Disk) (claims : ClaimSet) (next : ℕ) (cache : Cache) (handles
 
 -- ---- cached keys stay those of the mount's nodes
 
-module _ (cache : Cache) (modes : Modes) (m : PlainMount) (stand : CachesStand cache modes m) (node : ℕ) where
+module _ (cache : Cache) (modes : Modes) (m : PlainMount) (stand : RepresentsCaches cache modes m) (node : ℕ) where
   more_caches : (key : Option NodeKey) → IfSome key (λ k. (c : Context) → context_at m.nodes node ≡ Some c → k.key ≡ node_key m.raws c (plain_kind (get m.nodes node)))
-      → (pins : PinMap) → CachesStand (record { keys = given cache.keys node key; pins = pins }) modes m
+      → (pins : PinMap) → RepresentsCaches (record { keys = with_pinned_key cache.keys node key; pins = pins }) modes m
   more_caches key fresh pins = record {
     file_keys = λ q k c there under. elim (given_was cache.keys node (λ x. (d : Context) → context_at m.nodes node ≡ Some d → x.key ≡ node_key m.raws d (plain_kind (get m.nodes node))) key fresh q k there) [
       | inl old ↦ stand.file_keys q k c old under
@@ -146,17 +146,17 @@ module _ (cache : Cache) (modes : Modes) (m : PlainMount) (stand : CachesStand c
   pub own_caches : {T E : Type 0} (key : Option NodeKey)
       → IfSome key (λ k. (c : Context) → context_at m.nodes node ≡ Some c → k.key ≡ node_key m.raws c (plain_kind (get m.nodes node)))
       → (r : Result T E) (after : Cache)
-      → OnOk r (after ≡ record { keys = given cache.keys node key; pins = with_pins cache.pins node (pins_of cache node + 1) }) → OnErr r (after ≡ cache)
-      → CachesStand after modes m
+      → OnOk r (after ≡ record { keys = with_pinned_key cache.keys node key; pins = with_pins cache.pins node (pins_of cache node + 1) }) → OnErr r (after ≡ cache)
+      → RepresentsCaches after modes m
   own_caches key fresh (Ok x) after pinned kept =
-      subst (λ (c : Cache). CachesStand c modes m) (sym pinned) (more_caches key fresh (with_pins cache.pins node (pins_of cache node + 1)))
-  own_caches key fresh (Err e) after pinned kept = subst (λ (c : Cache). CachesStand c modes m) (sym kept) stand
+      subst (λ (c : Cache). RepresentsCaches c modes m) (sym pinned) (more_caches key fresh (with_pins cache.pins node (pins_of cache node + 1)))
+  own_caches key fresh (Err e) after pinned kept = subst (λ (c : Cache). RepresentsCaches c modes m) (sym kept) stand
 
   pub shared_caches : (id : KeyId) (kind : KeyKind) (key : FileKey) → key ≡ mode_key_of (unwrap_or (raw_in m.raws id) []) kind
-      → (after : Cache) → after ≡ record { keys = given cache.keys node None; pins = with_pins cache.pins node (pins_of cache node + 1) }
-      → (now : Modes) → now ≡ held modes id kind key → CachesStand after now m
+      → (after : Cache) → after ≡ record { keys = with_pinned_key cache.keys node None; pins = with_pins cache.pins node (pins_of cache node + 1) }
+      → (now : Modes) → now ≡ held modes id kind key → RepresentsCaches after now m
   shared_caches id kind key fits after pinned now are =
-      subst (λ (c : Cache). CachesStand c now m) (sym pinned) (subst (λ (x : Modes). CachesStand (record { keys = cache.keys; pins = with_pins cache.pins node (pins_of cache node + 1) }) x m) (sym are)
+      subst (λ (c : Cache). RepresentsCaches c now m) (sym pinned) (subst (λ (x : Modes). RepresentsCaches (record { keys = cache.keys; pins = with_pins cache.pins node (pins_of cache node + 1) }) x m) (sym are)
       (record {
         file_keys = stand.file_keys;
         mode_keys = each_held (λ i k x. x ≡ mode_key_of (unwrap_or (raw_in m.raws i) []) k) modes stand.mode_keys id kind key fits;

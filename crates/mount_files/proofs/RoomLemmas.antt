@@ -23,7 +23,7 @@ use Rattle.mount_model.specs.PlainMount.{PlainMount, Raws}
 use Rattle.mount_model.specs.FileAnswers.{contents_at, lacks_blocks_for}
 use Rattle.mount_model.specs.Blocks.{block_total, block_count as plain_count}
 use Rattle.mount_state.specs.Stored.{stored_node, stored_body, contents_seal}
-use Rattle.mount_state.specs.StandsFor.{StandsFor}
+use Rattle.mount_state.specs.Represents.{Represents}
 use Rattle.mount_state.specs.declared.state.MountState.{MountState}
 
 -- ---- blocks
@@ -71,7 +71,7 @@ count_written offset bytes contents some =
     let whole = div_ceil_times (offset + length bytes) 4096 (omega arith) in
     count-with_bytes offset bytes contents (end_block offset bytes) some (omega (arith, whole)) (omega (arith, whole))
 
-module _ (s : MountState) (m : PlainMount) (st : StandsFor s m) (file offset : ℕ) (bytes : List ℕ) where
+module _ (s : MountState) (m : PlainMount) (st : Represents s m) (file offset : ℕ) (bytes : List ℕ) where
   total : disk_total s.disk ≡ block_total m.nodes
   total = totals_alike m.raws m.nodes s.disk st.tree.nodes
 

@@ -15,7 +15,7 @@ use Rattle.user_claims.specs.Claims.{ClaimSet}
 use Rattle.key_ring.specs.Modes.{Modes, mode_at}
 use Rattle.key_ring.specs.ModeUsers.{users_in}
 use Rattle.key_ring.specs.declared.mode_key.ModeKey.{ModeKey}
-use Rattle.inode_refs.specs.Cached.{Cache, key_at}
+use Rattle.inode_refs.specs.CacheMaps.{Cache, key_at}
 use Rattle.inode_refs.specs.declared.node_key.NodeKey.{NodeKey}
 use Rattle.data_crypt.specs.Blocks.{Seal}
 use Rattle.plain_tree.specs.Nodes.{Node, Body, Dir, File, Link}
@@ -28,8 +28,8 @@ use Rattle.mount_state.specs.Contexts.{context_on_disk, has_shared, uses_mode}
 use Rattle.mount_state.specs.StoredKinds.{same_kind, kind_on_disk as stored_kind}
 use Rattle.mount_state.specs.Discipline.{Forgets}
 use Rattle.mount_state.specs.Stored.{stored_node, contents_seal}
-use Rattle.mount_state.specs.StandsFor.{StandsFor}
-use Rattle.mount_state.specs.CachedKeys.{CachesStand, plain_kind}
+use Rattle.mount_state.specs.Represents.{Represents}
+use Rattle.mount_state.specs.CachedKeys.{RepresentsCaches, plain_kind}
 use Rattle.mount_state.specs.declared.state.MountState.{MountState}
 use Rattle.mount_state.proofs.ContextLemmas.{context_read}
 use Rattle.mount_state.proofs.KeepLemmas.{own_there}
@@ -59,7 +59,7 @@ contents_made raw c false = refl
 
 module _ (m : PlainMount) (file : ℕ) (c : Context) (here : context_at m.nodes file ≡ Some c) (is_file : plain_kind (get m.nodes file) ≡ Contents) where
   -- a key that is held is the key of the file's contents
-  held_is : (cache : Cache) (modes : Modes) → CachesStand cache modes m → (k : FileKey) → contents_key cache modes file c ≡ Some k → k ≡ node_key m.raws c Contents
+  held_is : (cache : Cache) (modes : Modes) → RepresentsCaches cache modes m → (k : FileKey) → contents_key cache modes file c ≡ Some k → k ≡ node_key m.raws c Contents
   held_is cache modes stand k is = by_flag c.policy.by_mode refl is
     where
       of_mode : (o : Option ModeKey) → mode_at modes c.policy.id Contents ≡ o → option_map (λ mode. mode.key) o ≡ Some k → k ≡ mode_key_of (raw_for m.raws c) Contents
@@ -106,7 +106,7 @@ module _ (m : PlainMount) (file : ℕ) (c : Context) (here : context_at m.nodes 
 
 -- ---- over the whole state
 
-module _ (s : MountState) (m : PlainMount) (st : StandsFor s m) (file : ℕ) (is_open : IsOpen m file) where
+module _ (s : MountState) (m : PlainMount) (st : Represents s m) (file : ℕ) (is_open : IsOpen m file) where
   kind_here : stored_kind (get s.disk file) ≡ Contents
   kind_here = ap stored_kind (st.tree.nodes file) ∙ file_kind m file (get m.nodes file) is_open.is_file
 
@@ -148,6 +148,6 @@ pub key_held : (s : MountState) (file : ℕ) → HasOpen s file → (context : C
     → ((c : Context) → length c.policy.id.0 ≡ 16 → context_on_disk (get s.disk file) ≡ Some (context_bytes c) → Some context ≡ Some c)
     → (bytes : List ℕ) × (contents_key s.inodes s.modes file context ≡ Some (key.Contents bytes))
 key_held s file has context there same =
-    let read = context_read s.disk s.next_node has.mount has.stands.well has.stands.tree file (context_bytes context) there in
+    let read = context_read s.disk s.next_node has.mount has.represents.well has.represents.tree file (context_bytes context) there in
     let is : context ≡ read.0 = some_same context read.0 (same read.0 read.1.1.1 (there ∙ ap (λ (b : List ℕ). Some b) read.1.1.0)) in
-    (key_bytes (node_key has.mount.raws read.0 Contents), ap (contents_key s.inodes s.modes file) is ∙ key_is s has.mount has.stands file has.is_open read.0 read.1.0)
+    (key_bytes (node_key has.mount.raws read.0 Contents), ap (contents_key s.inodes s.modes file) is ∙ key_is s has.mount has.represents file has.is_open read.0 read.1.0)

@@ -1,7 +1,7 @@
 pub mod OpenFile
 pub mod Seals
-pub mod Lent
-pub mod Written
+pub mod Pending
+pub mod Writing
 pub mod Needs
-pub mod Opened
-pub mod Closed
+pub mod Opening
+pub mod Closing

@@ -8,7 +8,7 @@ use Rattle.fsc_keys.specs.Keys.{mode_key_of}
 use Rattle.fsc_keys.specs.declared.file_keys.FileKey.{FileKey}
 use Rattle.fsc_keys.specs.declared.file_keys.KeyKind.{KeyKind}
 use Rattle.number_map.specs.Numbered.{get}
-use Rattle.inode_refs.specs.Cached.{Cache, given}
+use Rattle.inode_refs.specs.CacheMaps.{Cache, with_pinned_key}
 use Rattle.inode_refs.specs.declared.node_key.NodeKey.{NodeKey}
 use Rattle.plain_tree.specs.NodesByNumber.{context_at}
 use Rattle.disk_tree.specs.DiskTree.{Disk}
@@ -29,7 +29,7 @@ IsKeyFor disk node key = (uses_own disk node key.id ≡ true)
 pub record IsOwnNeed (disk : Disk) (cache : Cache) (node : ℕ) (key : Option NodeKey) : Type 0 where
   pub fits : IfSome key (IsKeyFor disk node)
   pub cached : (id : KeyId) → uses_own disk node id ≡ true
-      → is_some (get (given cache.keys node key) node) ≡ true
+      → is_some (get (with_pinned_key cache.keys node key) node) ≡ true
   pub unshared : (id : KeyId) (kind : KeyKind) → uses_mode disk id kind node ≡ false
 
 -- this is the mode key that the node uses

@@ -7,7 +7,7 @@ use Rattle.fsc_keys.specs.declared.file_keys.KeyKind.TheVariants.{Contents}
 use Rattle.fsc_keys.specs.declared.file_keys.FileKey.{FileKey}
 use Rattle.number_map.specs.Numbered.{get}
 use Rattle.key_ring.specs.Modes.{Modes, mode_at}
-use Rattle.inode_refs.specs.Cached.{Cache, key_at}
+use Rattle.inode_refs.specs.CacheMaps.{Cache, key_at}
 use Rattle.data_crypt.specs.Blocks.{Seal}
 use Rattle.mount_model.specs.Sealed.{node_start}
 use Rattle.mount_state.specs.Contexts.{context_on_disk}

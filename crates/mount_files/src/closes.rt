@@ -16,13 +16,13 @@ ghost use Rattle.mount_model.specs.PlainMount.{PlainMount};
 ghost use Rattle.mount_model.specs.OpenHandles.{node_of};
 ghost use Rattle.mount_state.specs.CachedNames.{is_dir_on_disk};
 ghost use Rattle.mount_state.specs.Contexts.{context_on_disk, uses_mode};
-ghost use Rattle.mount_state.specs.Given.{IsGiven};
-ghost use Rattle.mount_state.specs.Held.{HoldsNothing, key_state};
+ghost use Rattle.mount_state.specs.AnswerOf.{IsAnswerOf};
+ghost use Rattle.mount_state.specs.KeyUse.{HoldsNothing, key_state};
 ghost use Rattle.mount_state.specs.SameButCaches.{SameButCaches};
-ghost use Rattle.mount_state.specs.StandsFor.{StandsFor};
-ghost use Rattle.mount_files.specs.Closed.{is_lasting, is_key_due, disk_left, keys_left, modes_left};
-ghost use Rattle.mount_files.specs.Closed.{names_left};
-ghost use Rattle.mount_files.specs.Opened.{ClosesOne, SameButClosed};
+ghost use Rattle.mount_state.specs.Represents.{Represents};
+ghost use Rattle.mount_files.specs.Closing.{is_lasting, is_key_needed, disk_after_close, keys_after_close, modes_after_close};
+ghost use Rattle.mount_files.specs.Closing.{names_after_close};
+ghost use Rattle.mount_files.specs.Opening.{ClosesOne, SameButClosed};
 
 use crate::needs::key_kind_of;
 use dentry_cache::NameCache;
@@ -51,8 +51,8 @@ pub fn close(state: &mut MountState, caller: u32, handle: u32) -> Reply
     ensures gone { (id : KeyId)
         → key_state state.new.disk state.new.ring.claims state.new.handles.live id ≡ Absent
         → HoldsNothing state.new.disk state.new.ring state.new.inodes state.new.modes state.new.names id }
-    ensures stands { (m : PlainMount) → StandsFor state.old m
-        → IsGiven (answer_to_close m caller handle) result state.new }
+    ensures represents { (m : PlainMount) → Represents state.old m
+        → IsAnswerOf (answer_to_close m caller handle) result state.new }
 {
     let Some(node) = state.handles.node_of(caller, handle) else {
         hold_what_is_needed(state);
@@ -77,8 +77,8 @@ fn close_on(state: &mut MountState, caller: u32, handle: u32, node: u32)
     requires { node_of state.old.handles.live caller handle ≡ Some node }
     ensures closed { ClosesOne state.old state.new caller handle node }
     ensures same { SameButClosed state.old state.new }
-    ensures stands { (m : PlainMount) → StandsFor state.old m
-        → StandsFor state.new (with_closed m caller handle node) }
+    ensures represents { (m : PlainMount) → Represents state.old m
+        → Represents state.new (with_closed m caller handle node) }
 {
     state.handles.close(caller, handle);
     state.inodes.unpin(node);
@@ -98,7 +98,7 @@ fn close_on(state: &mut MountState, caller: u32, handle: u32, node: u32)
 fn release_mode(disk: &DiskTree, modes: &mut ModeKeys, node: u32)
     requires { (id : KeyId) (kind : KeyKind) → uses_mode disk.now id kind node ≡ true
         → 1 ≤ users_in (of_kind modes.old kind) id }
-    ensures { modes.new ≡ modes_left disk.now modes.old node }
+    ensures { modes.new ≡ modes_after_close disk.now modes.old node }
 {
     let Some(stored) = disk.node(node) else {
         return;
@@ -115,7 +115,7 @@ fn release_mode(disk: &DiskTree, modes: &mut ModeKeys, node: u32)
 // key.
 fn forget_key(disk: &DiskTree, ring: &KeyRing, inodes: &mut InodeCache, node: u32)
     ensures { inodes.new ≡ record inodes.old {
-      keys = keys_left disk.now ring.now.claims inodes.old.keys (not (is_unpinned inodes.old node)) node;
+      keys = keys_after_close disk.now ring.now.claims inodes.old.keys (not (is_unpinned inodes.old node)) node;
     } }
 {
     if is_key_kept(disk, ring, inodes, node) {
@@ -132,7 +132,7 @@ fn forget_names(
     names: &mut NameCache,
     node: u32,
 )
-    ensures { names.new ≡ names_left disk.now ring.now.claims names.old
+    ensures { names.new ≡ names_after_close disk.now ring.now.claims names.old
         (not (is_unpinned inodes.now node)) node }
 {
     if is_key_kept(disk, ring, inodes, node) || !is_dir(disk, node) {
@@ -144,9 +144,9 @@ fn forget_names(
 // Whether the node's key stays: the node has pins, or it is to stay and its key is required.
 fn is_key_kept(disk: &DiskTree, ring: &KeyRing, inodes: &InodeCache, node: u32) -> bool
     ensures { result ≡ (not (is_unpinned inodes.now node)
-        || (is_lasting disk.now node && is_key_due ring.now.claims (context_on_disk (get disk.now node)))) }
+        || (is_lasting disk.now node && is_key_needed ring.now.claims (context_on_disk (get disk.now node)))) }
 {
-    inodes.pins(node) > 0 || (is_lasting(disk, node) && is_key_due(disk, ring, node))
+    inodes.pins(node) > 0 || (is_lasting(disk, node) && is_key_needed(disk, ring, node))
 }
 
 // Whether the number is that of a directory.
@@ -164,7 +164,7 @@ fn is_dir(disk: &DiskTree, node: u32) -> bool
 
 // Removes the node, if it has no pins and isn't to stay.
 fn forget_node(disk: &mut DiskTree, inodes: &InodeCache, node: u32)
-    ensures { disk.new ≡ disk_left disk.old (not (is_unpinned inodes.now node)) node }
+    ensures { disk.new ≡ disk_after_close disk.old (not (is_unpinned inodes.now node)) node }
 {
     if inodes.pins(node) > 0 || is_lasting(disk, node) {
         return;
@@ -185,8 +185,8 @@ fn is_lasting(disk: &DiskTree, node: u32) -> bool
 
 // Whether the node's key stays without a handle: some user has a claim on the master key that its context
 // names. It stays too if the node has no context.
-fn is_key_due(disk: &DiskTree, ring: &KeyRing, node: u32) -> bool
-    ensures { result ≡ is_key_due ring.now.claims (context_on_disk (get disk.now node)) }
+fn is_key_needed(disk: &DiskTree, ring: &KeyRing, node: u32) -> bool
+    ensures { result ≡ is_key_needed ring.now.claims (context_on_disk (get disk.now node)) }
 {
     match disk.node(node) {
         Some(

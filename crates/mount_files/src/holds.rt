@@ -2,15 +2,15 @@
 
 ghost use Rattle.std.specs.Prelude.{◌≡◌, ◌+◌, ◌-◌, ◌<◌, ◌^◌, true, false, is_some, IfOk, OnOk, OnErr, if◌then◌else◌};
 ghost use Rattle.number_map.specs.Numbered.{get, remove};
-ghost use Rattle.inode_refs.specs.Cached.{pins_of, with_pins, given};
+ghost use Rattle.inode_refs.specs.CacheMaps.{pins_of, with_pins, with_pinned_key};
 ghost use Rattle.mount_model.specs.PlainMount.{PlainMount};
 ghost use Rattle.mount_model.specs.OpenHandles.{opens_of};
 ghost use Rattle.mount_state.specs.Handles.{is_full, with_handle};
 ghost use Rattle.mount_state.specs.SameButCaches.{SameButCaches};
-ghost use Rattle.mount_state.specs.StandsFor.{StandsFor};
-ghost use Rattle.mount_state.specs.CachedKeys.{CachesStand};
+ghost use Rattle.mount_state.specs.Represents.{Represents};
+ghost use Rattle.mount_state.specs.CachedKeys.{RepresentsCaches};
 ghost use Rattle.mount_files.specs.Needs.{IsOwnNeed, IsSharedNeed, IsNeedIn};
-ghost use Rattle.mount_files.specs.Opened.{OpensOne};
+ghost use Rattle.mount_files.specs.Opening.{OpensOne};
 ghost use Rattle.mount_files.specs.declared.need.Need.TheVariants.{Own, Shared};
 
 use fsc_keys::{FileKey, KeyId, KeyKind};
@@ -33,8 +33,8 @@ pub(crate) fn open_own(
     ensures opened { OnOk result (OpensOne state.old state.new caller node) }
     ensures kept { OnErr result (SameButCaches state.old state.new) }
     ensures names { state.new.names ≡ state.old.names }
-    ensures caches { (m : PlainMount) → StandsFor state.old m → IsNeedIn m node (Own key)
-        → CachesStand state.new.inodes state.new.modes m }
+    ensures caches { (m : PlainMount) → Represents state.old m → IsNeedIn m node (Own key)
+        → RepresentsCaches state.new.inodes state.new.modes m }
 {
     open_pinned(
         alloc,
@@ -63,8 +63,8 @@ pub(crate) fn open_shared(
     ensures opened { OnOk result (OpensOne state.old state.new caller node) }
     ensures kept { OnErr result (SameButCaches state.old state.new) }
     ensures names { state.new.names ≡ state.old.names }
-    ensures caches { (m : PlainMount) → StandsFor state.old m → IsNeedIn m node (Shared id kind key)
-        → CachesStand state.new.inodes state.new.modes m }
+    ensures caches { (m : PlainMount) → Represents state.old m → IsNeedIn m node (Shared id kind key)
+        → RepresentsCaches state.new.inodes state.new.modes m }
 {
     // Each mode key has users, so one user that is added and removed again leaves all as before.
     let _used = state.modes.users_of(&id);
@@ -100,7 +100,7 @@ fn open_pinned(
     ensures number { IfOk result (λ number. number ≡ opens_of handles.old.opened caller) }
     ensures opened { OnOk result (handles.new ≡ with_handle handles.old caller node) }
     ensures pinned { OnOk result (inodes.new ≡ record {
-      keys = given inodes.old.keys node key;
+      keys = with_pinned_key inodes.old.keys node key;
       pins = with_pins inodes.old.pins node (pins_of inodes.old node + 1);
     }) }
     ensures handles { OnErr result (handles.new ≡ handles.old) }

@@ -7,8 +7,8 @@ ghost use Rattle.policy_ctx.specs.Context.{is_by_mode_in};
 ghost use Rattle.mount_model.specs.PlainMount.{PlainMount};
 ghost use Rattle.mount_state.specs.Contexts.{context_on_disk};
 ghost use Rattle.mount_state.specs.StoredKinds.{kind_on_disk, disk_kind_of};
-ghost use Rattle.mount_state.specs.Held.{is_unlocked};
-ghost use Rattle.mount_state.specs.StandsFor.{StandsFor};
+ghost use Rattle.mount_state.specs.KeyUse.{is_unlocked};
+ghost use Rattle.mount_state.specs.Represents.{Represents};
 ghost use Rattle.mount_files.specs.Needs.{IsNeedOf, IsNeedIn};
 
 use crate::need::Need;
@@ -23,7 +23,7 @@ pub(crate) fn need_of(state: &MountState, node: u32) -> Need
     requires there { is_some (get state.now.disk node) ≡ true }
     requires keyed { is_unlocked state.now.disk state.now.ring.claims state.now.handles.live node ≡ true }
     ensures need { IsNeedOf state.now.disk state.now.inodes node result }
-    ensures stands { (m : PlainMount) → StandsFor state.now m → IsNeedIn m node result }
+    ensures represents { (m : PlainMount) → Represents state.now m → IsNeedIn m node result }
 {
     let Some(stored) = state.disk.node(node) else {
         unreachable!()
@@ -45,7 +45,7 @@ fn own_need(state: &MountState, node: u32, context: &[u8; CONTEXT_LEN], kind: Ke
     requires own { is_by_mode_in context.now ≡ false }
     requires keyed { is_unlocked state.now.disk state.now.ring.claims state.now.handles.live node ≡ true }
     ensures need { IsNeedOf state.now.disk state.now.inodes node result }
-    ensures stands { (m : PlainMount) → StandsFor state.now m → IsNeedIn m node result }
+    ensures represents { (m : PlainMount) → Represents state.now m → IsNeedIn m node result }
 {
     if state.inodes.key_of(node).is_some() {
         return Need::Own(None);
@@ -67,7 +67,7 @@ fn shared_need(state: &MountState, node: u32, context: &[u8; CONTEXT_LEN], kind:
     requires shared { is_by_mode_in context.now ≡ true }
     requires keyed { is_unlocked state.now.disk state.now.ring.claims state.now.handles.live node ≡ true }
     ensures need { IsNeedOf state.now.disk state.now.inodes node result }
-    ensures stands { (m : PlainMount) → StandsFor state.now m → IsNeedIn m node result }
+    ensures represents { (m : PlainMount) → Represents state.now m → IsNeedIn m node result }
 {
     let id = id_in(context);
     if let Some(key) = state.modes.key_of(&id, kind) {

@@ -3,16 +3,16 @@
 ghost use Rattle.std.specs.Prelude.{◌≡◌, ◌+◌, ◌≤◌, true, false, length, is_some, IfOk, OnOk, OnErr};
 ghost use Rattle.number_map.specs.Numbered.{get};
 ghost use Rattle.mount_model.specs.ClaimHistory.{is_refused};
-ghost use Rattle.mount_model.specs.OpenAnswers.{answer_to_open, open_told};
+ghost use Rattle.mount_model.specs.OpenAnswers.{answer_to_open, open_answer};
 ghost use Rattle.mount_model.specs.PlainMount.{PlainMount};
 ghost use Rattle.mount_model.specs.OpenHandles.{opens_of};
-ghost use Rattle.mount_state.specs.Given.{IsGivenOrNoMemory};
+ghost use Rattle.mount_state.specs.AnswerOf.{IsAnswerOrNoMemory};
 ghost use Rattle.mount_state.specs.Handles.{is_full};
-ghost use Rattle.mount_state.specs.Held.{is_unlocked};
+ghost use Rattle.mount_state.specs.KeyUse.{is_unlocked};
 ghost use Rattle.mount_state.specs.SameButCaches.{SameButCaches};
-ghost use Rattle.mount_state.specs.StandsFor.{StandsFor};
-ghost use Rattle.mount_state.specs.CachedKeys.{CachesStand};
-ghost use Rattle.mount_files.specs.Opened.{is_link_body, OpensAsTold, OpensOne, SameButOpen};
+ghost use Rattle.mount_state.specs.Represents.{Represents};
+ghost use Rattle.mount_state.specs.CachedKeys.{RepresentsCaches};
+ghost use Rattle.mount_files.specs.Opening.{is_link_body, OpensWithNextHandle, OpensOne, SameButOpen};
 
 use crate::holds::{open_own, open_shared};
 use crate::need::Need;
@@ -29,7 +29,7 @@ use std::sync::ledger::Ledger;
 /// as long as a handle is open on it.
 ///
 /// Refused as the walk is, then with Inval for a symlink, then with NoKey if the node's key isn't
-/// available. Then NoSpace if `MOST_HANDLES` handles are open or the caller opened `MOST_OPENS`. NoMemory
+/// available. Then NoSpace if `MAX_HANDLES` handles are open or the caller opened `MAX_OPENS`. NoMemory
 /// replaces an answer that is no refusal. After a refusal all is as before, except which keys of nodes and
 /// which names are cached.
 pub fn open_node<L: Ledger>(
@@ -39,12 +39,12 @@ pub fn open_node<L: Ledger>(
     path: &Path,
     steps: &mut Steps<L>,
 ) -> Reply
-    ensures stands { (m : PlainMount) → StandsFor state.old m
-        → IsGivenOrNoMemory m (answer_to_open m caller path.now) result state.new }
-    ensures denied { (m : PlainMount) → StandsFor state.old m
+    ensures represents { (m : PlainMount) → Represents state.old m
+        → IsAnswerOrNoMemory m (answer_to_open m caller path.now) result state.new }
+    ensures denied { (m : PlainMount) → Represents state.old m
         → is_refused (answer_to_open m caller path.now).reply ≡ true
         → result ≡ (answer_to_open m caller path.now).reply }
-    ensures opened { is_refused result ≡ false → OpensAsTold state.old state.new caller result }
+    ensures opened { is_refused result ≡ false → OpensWithNextHandle state.old state.new caller result }
     ensures refused { is_refused result ≡ true → SameButCaches state.old state.new }
     ensures same { SameButOpen state.old state.new }
     ensures ticks { steps.new ≤ steps.old + length path.now }
@@ -57,11 +57,11 @@ pub fn open_node<L: Ledger>(
 
 // Opens a handle of the caller on the node that a walk reached.
 fn open_at(alloc: Global, state: &mut MountState, caller: u32, node: u32) -> Reply
-    ensures stands { (m : PlainMount) → StandsFor state.old m → is_some (get m.nodes node) ≡ true
-        → IsGivenOrNoMemory m (open_told m caller node) result state.new }
-    ensures denied { (m : PlainMount) → StandsFor state.old m → is_some (get m.nodes node) ≡ true
-        → is_refused (open_told m caller node).reply ≡ true → result ≡ (open_told m caller node).reply }
-    ensures opened { is_refused result ≡ false → OpensAsTold state.old state.new caller result }
+    ensures represents { (m : PlainMount) → Represents state.old m → is_some (get m.nodes node) ≡ true
+        → IsAnswerOrNoMemory m (open_answer m caller node) result state.new }
+    ensures denied { (m : PlainMount) → Represents state.old m → is_some (get m.nodes node) ≡ true
+        → is_refused (open_answer m caller node).reply ≡ true → result ≡ (open_answer m caller node).reply }
+    ensures opened { is_refused result ≡ false → OpensWithNextHandle state.old state.new caller result }
     ensures refused { is_refused result ≡ true → SameButCaches state.old state.new }
     ensures same { SameButOpen state.old state.new }
 {
@@ -97,8 +97,8 @@ fn open_keyed(
     ensures opened { OnOk result (OpensOne state.old state.new caller node) }
     ensures kept { OnErr result (SameButCaches state.old state.new) }
     ensures names { state.new.names ≡ state.old.names }
-    ensures caches { (m : PlainMount) → StandsFor state.old m
-        → CachesStand state.new.inodes state.new.modes m }
+    ensures caches { (m : PlainMount) → Represents state.old m
+        → RepresentsCaches state.new.inodes state.new.modes m }
 {
     match need_of(state, node) {
         Need::Own(key) => open_own(alloc, state, caller, node, key),

@@ -5,15 +5,15 @@ ghost use Rattle.mount_model.specs.ClaimHistory.{is_refused};
 ghost use Rattle.mount_model.specs.FileAnswers.{answer_to_write};
 ghost use Rattle.mount_model.specs.PlainMount.{PlainMount};
 ghost use Rattle.mount_model.specs.OpenHandles.{node_of};
-ghost use Rattle.mount_state.specs.Given.{IsGivenOrNoMemory};
+ghost use Rattle.mount_state.specs.AnswerOf.{IsAnswerOrNoMemory};
 ghost use Rattle.mount_state.specs.SameBut.{IsSame};
-ghost use Rattle.mount_state.specs.StandsFor.{StandsFor};
-ghost use Rattle.mount_files.specs.Written.{IsWrittenTo, SameButDisk};
+ghost use Rattle.mount_state.specs.Represents.{Represents};
+ghost use Rattle.mount_files.specs.Writing.{IsWrittenTo, SameButDisk};
 
 use crate::files::open_file;
 use crate::keys::key_of;
 use byte_words::slice_is_bytes;
-use file_disk::{DiskFault, MOST_FILE_BYTES, write_file};
+use file_disk::{DiskFault, MAX_FILE_BYTES, write_file};
 use item_list::Bytes;
 use mount_model::{Refusal, Reply};
 use mount_state::MountState;
@@ -24,7 +24,7 @@ use std::alloc::Global;
 /// bytes touch and those that are new are stored again.
 ///
 /// Refused with BadHandle if the caller has no such handle, then with IsDir. Then TooBig if the bytes would
-/// end after `MOST_FILE_BYTES`, then NoSpace if all files would have more than `MOST_BLOCKS` blocks.
+/// end after `MAX_FILE_BYTES`, then NoSpace if all files would have more than `MAX_BLOCKS` blocks.
 /// NoMemory if there is none for new blocks. After a refusal the state is as before.
 pub fn write(
     alloc: Global,
@@ -34,9 +34,9 @@ pub fn write(
     offset: u32,
     bytes: &Bytes,
 ) -> Reply
-    ensures stands { (m : PlainMount) → StandsFor state.old m
-        → IsGivenOrNoMemory m (answer_to_write m caller handle offset bytes.now) result state.new }
-    ensures refused { (m : PlainMount) → StandsFor state.old m
+    ensures represents { (m : PlainMount) → Represents state.old m
+        → IsAnswerOrNoMemory m (answer_to_write m caller handle offset bytes.now) result state.new }
+    ensures refused { (m : PlainMount) → Represents state.old m
         → is_refused (answer_to_write m caller handle offset bytes.now).reply ≡ true
         → result ≡ (answer_to_write m caller handle offset bytes.now).reply }
     ensures kept { is_refused result ≡ true → IsSame state.old state.new }
@@ -49,7 +49,7 @@ pub fn write(
         Err(refusal) => return Reply::Refused(refusal),
     };
     let piece = bytes.as_slice();
-    if u64::from(offset) + piece.len() as u64 > MOST_FILE_BYTES as u64 {
+    if u64::from(offset) + piece.len() as u64 > MAX_FILE_BYTES as u64 {
         return Reply::Refused(Refusal::TooBig);
     }
     let mut key = match key_of(state, file) {

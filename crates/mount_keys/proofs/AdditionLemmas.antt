@@ -10,18 +10,18 @@ use Rattle.policy_ctx.specs.declared.policy.Context.{Context}
 use Rattle.policy_ctx.specs.KeyIds.{same_id}
 use Rattle.policy_ctx.proofs.KeyIdLemmas.{same_id-eq, same_id-refl}
 use Rattle.fsc_keys.specs.Keys.{key_id_of, mode_key_of}
-use Rattle.fsc_keys.specs.declared.raw_key.TheConstants.{LEAST_RAW_KEY_BYTES, MOST_RAW_KEY_BYTES}
+use Rattle.fsc_keys.specs.declared.raw_key.TheConstants.{MIN_RAW_KEY_BYTES, MAX_RAW_KEY_BYTES}
 use Rattle.fsc_keys.specs.declared.file_keys.KeyKind.{KeyKind}
 use Rattle.user_claims.specs.Claims.{ClaimSet, has_claim, with_claim}
 use Rattle.user_claims.specs.ClaimCounts.{is_present, count_of_user, IsOverQuota}
-use Rattle.user_claims.specs.declared.claims.TheConstants.{MOST_CLAIMS}
+use Rattle.user_claims.specs.declared.claims.TheConstants.{MAX_CLAIMS}
 use Rattle.user_claims.proofs.ClaimOrder.{id_cmp_total, id_ties}
 use Rattle.user_claims.proofs.PresentLemmas.{is_present-with_claim}
 use Rattle.key_ring.specs.Holding.{SecretMap}
 use Rattle.key_ring.specs.Modes.{Modes, mode_at}
 use Rattle.key_ring.specs.ModeUsers.{AreUsed}
 use Rattle.key_ring.specs.declared.mode_key.ModeKey.{ModeKey}
-use Rattle.inode_refs.specs.Cached.{Cache}
+use Rattle.inode_refs.specs.CacheMaps.{Cache}
 use Rattle.plain_tree.specs.NodesByNumber.{context_at}
 use Rattle.plain_tree.specs.Facts.{AgreesBy}
 use Rattle.disk_tree.specs.DiskTree.{Disk}
@@ -29,26 +29,26 @@ use Rattle.mount_model.specs.declared.reply.Reply.TheVariants.{Added}
 use Rattle.mount_model.specs.declared.reply.Refusal.TheVariants.{Inval, Quota}
 use Rattle.mount_model.specs.declared.reply.KeyState.TheVariants.{Absent, Present, Incomplete}
 use Rattle.mount_model.specs.PlainMount.{PlainMount, Raws, HandleList, raw_in, with_raw}
-use Rattle.mount_model.specs.Answered.{Answer, refused}
+use Rattle.mount_model.specs.AnswerForms.{Answer, refusal_with}
 use Rattle.mount_model.specs.States as plain
-use Rattle.mount_model.specs.KeyAnswers.{is_raw_key, is_over_quota, with_key, added, answer_to_add_key}
+use Rattle.mount_model.specs.KeyAnswers.{is_raw_key, is_over_quota, with_key, answer_to_added_key, answer_to_add_key}
 use Rattle.mount_model.specs.Lawful.{AgreesWith}
 use Rattle.mount_model.proofs.KeyLemmas.{raw_in-with_raw, HasKeys-with_key}
 use Rattle.mount_model.proofs.AddedLemmas.{HasNodes-with_raw}
 use Rattle.dentry_cache.specs.Names.{NameList}
-use Rattle.mount_state.specs.CachedNames.{NamesStand}
+use Rattle.mount_state.specs.CachedNames.{RepresentsNames}
 use Rattle.mount_state.specs.Handles.{Handles}
-use Rattle.mount_state.specs.Held.{is_in_use, key_state}
+use Rattle.mount_state.specs.KeyUse.{is_in_use, key_state}
 use Rattle.mount_state.specs.Stored.{stored_node}
-use Rattle.mount_state.specs.StandsFor.{StandsFor}
-use Rattle.mount_state.specs.CachedKeys.{CachesStand}
+use Rattle.mount_state.specs.Represents.{Represents}
+use Rattle.mount_state.specs.CachedKeys.{RepresentsCaches}
 use Rattle.mount_state.specs.declared.state.MountState.{MountState}
 use Rattle.mount_state.proofs.RuleLemmas.{no_mode_key}
 use Rattle.mount_state.proofs.StandLemmas.{busy_stands}
 use Rattle.mount_state.proofs.UserLemmas.{one_on}
-use Rattle.mount_state.specs.Given.{IsGiven}
+use Rattle.mount_state.specs.AnswerOf.{IsAnswerOf}
 use Rattle.mount_state.proofs.WalkLemmas.{same_cache}
-use Rattle.mount_keys.specs.Taken.{SameButRing, GainsClaim}
+use Rattle.mount_keys.specs.ClaimChanges.{SameButRing, GainsClaim}
 use Rattle.mount_keys.proofs.AlikeLemmas.{node_key_alike, kept_raw, raw_there, still_stored}
 
 -- ---- secrets
@@ -89,11 +89,11 @@ added_present disk before after live uid key raw is claimed =
 -- ---- no refusal
 
 -- a claim that is held, or that is within the user's quota
-within_quota : (held : Bool) (n : ℕ) → ((held ≡ false) × (MOST_CLAIMS ≤ n) → ⊥)
-    → (not held && nat_le MOST_CLAIMS n) ≡ false
+within_quota : (held : Bool) (n : ℕ) → ((held ≡ false) × (MAX_CLAIMS ≤ n) → ⊥)
+    → (not held && nat_le MAX_CLAIMS n) ≡ false
 within_quota true n room = refl
-within_quota false n room = elim (cases_Bool (nat_le MOST_CLAIMS n)) [
-  | inl full ↦ absurd (room (refl, leb-true MOST_CLAIMS n full))
+within_quota false n room = elim (cases_Bool (nat_le MAX_CLAIMS n)) [
+  | inl full ↦ absurd (room (refl, leb-true MAX_CLAIMS n full))
   | inr free ↦ free
 ]
 
@@ -105,7 +105,7 @@ last_answer true false x y z fits room = refl
 
 -- ---- the key of a cached mode was added
 
-module _ (s : MountState) (m : PlainMount) (st : StandsFor s m) (used : AreUsed s.modes) where
+module _ (s : MountState) (m : PlainMount) (st : Represents s m) (used : AreUsed s.modes) where
   -- some node's policy names it
   named_raw : (id : KeyId) (n : ℕ) (o : Option Context) → context_at m.nodes n ≡ o → plain.is_of_id id o
       ≡ true
@@ -138,7 +138,7 @@ module _ (s : MountState) (m : PlainMount) (st : StandsFor s m) (used : AreUsed 
   -- ---- what is cached
 
   pub added_caches : (raw : List ℕ) → AgreesWith m.raws raw → (uid : ℕ)
-      → CachesStand s.inodes s.modes (with_key m uid raw)
+      → RepresentsCaches s.inodes s.modes (with_key m uid raw)
   added_caches raw agrees uid = record {
     file_keys = λ node key c there under.
         st.caches.file_keys node key c there under
@@ -155,7 +155,7 @@ module _ (s : MountState) (m : PlainMount) (st : StandsFor s m) (used : AreUsed 
 
   pub added_stand : (new : MountState) (uid : ℕ) (raw : List ℕ) → AgreesWith m.raws raw → is_raw_key raw
       ≡ true → is_over_quota m.claims (key_id_of raw) uid ≡ false
-      → SameButRing s new → GainsClaim s new uid raw → StandsFor new (with_key m uid raw)
+      → SameButRing s new → GainsClaim s new uid raw → Represents new (with_key m uid raw)
   added_stand new uid raw agrees fits room same gained = record {
     well = record {
       keys = HasKeys-with_key m.claims m.raws uid raw st.well.keys fits room;
@@ -179,10 +179,10 @@ module _ (s : MountState) (m : PlainMount) (st : StandsFor s m) (used : AreUsed 
       live = ap (λ (h : Handles). h.live) same.handles ∙ st.handles.live;
       opened = ap (λ (h : Handles). h.opened) same.handles ∙ st.handles.opened;
     };
-    caches = subst (λ (cache : Cache). CachesStand cache new.modes (with_key m uid raw)) (sym (same_cache s.inodes new.inodes same.keys same.pins))
-        (subst (λ (modes : Modes). CachesStand s.inodes modes (with_key m uid raw)) (sym same.modes)
+    caches = subst (λ (cache : Cache). RepresentsCaches cache new.modes (with_key m uid raw)) (sym (same_cache s.inodes new.inodes same.keys same.pins))
+        (subst (λ (modes : Modes). RepresentsCaches s.inodes modes (with_key m uid raw)) (sym same.modes)
         (added_caches raw agrees uid));
-    names = subst (λ (names : NameList). NamesStand names m.nodes) (sym same.names) st.names;
+    names = subst (λ (names : NameList). RepresentsNames names m.nodes) (sym same.names) st.names;
     records = same.meta ∙ st.records;
   }
 
@@ -190,20 +190,20 @@ module _ (s : MountState) (m : PlainMount) (st : StandsFor s m) (used : AreUsed 
 
   pub added_gives : (new : MountState) (uid : ℕ) (raw bytes : List ℕ) (id : KeyId) → AgreesWith m.raws bytes
       → raw ≡ bytes
-      → LEAST_RAW_KEY_BYTES ≤ length bytes → length bytes ≤ MOST_RAW_KEY_BYTES → id ≡ key_id_of raw
+      → MIN_RAW_KEY_BYTES ≤ length bytes → length bytes ≤ MAX_RAW_KEY_BYTES → id ≡ key_id_of raw
       → (IsOverQuota s.ring.claims (key_id_of raw) uid → ⊥)
-      → SameButRing s new → GainsClaim s new uid raw → IsGiven (answer_to_add_key m uid bytes) (Added id) new
+      → SameButRing s new → GainsClaim s new uid raw → IsAnswerOf (answer_to_add_key m uid bytes) (Added id) new
   added_gives new uid raw bytes id agrees is low high named room same gained =
       let fits : is_raw_key bytes ≡ true =
-      and_from _ _ (le-leb LEAST_RAW_KEY_BYTES (length bytes) low)
-      (le-leb (length bytes) MOST_RAW_KEY_BYTES high) in
+      and_from _ _ (le-leb MIN_RAW_KEY_BYTES (length bytes) low)
+      (le-leb (length bytes) MAX_RAW_KEY_BYTES high) in
       let within : is_over_quota m.claims (key_id_of bytes) uid ≡ false =
       within_quota (has_claim m.claims (key_id_of bytes) uid) (count_of_user m.claims uid)
       (λ over. room (subst (λ (r : List ℕ). IsOverQuota s.ring.claims (key_id_of r) uid) (sym is)
       (subst (λ (cs : ClaimSet). IsOverQuota cs (key_id_of bytes) uid) (sym st.keys.claims) over))) in
-      subst (λ (a : Answer). IsGiven a (Added id) new)
-      (sym (last_answer (is_raw_key bytes) (is_over_quota m.claims (key_id_of bytes) uid) (refused m Inval)
-      (refused m Quota) (added m uid bytes) fits within)) (
+      subst (λ (a : Answer). IsAnswerOf a (Added id) new)
+      (sym (last_answer (is_raw_key bytes) (is_over_quota m.claims (key_id_of bytes) uid) (refusal_with m Inval)
+      (refusal_with m Quota) (answer_to_added_key m uid bytes) fits within)) (
         ap Added (named ∙ ap key_id_of is),
         added_stand new uid bytes agrees fits within same
             (subst (λ (r : List ℕ). GainsClaim s new uid r) is gained),

@@ -16,8 +16,8 @@ use Rattle.user_claims.specs.ClaimCounts.{is_present}
 use Rattle.user_claims.proofs.PresentLemmas.{is_present-with_claim}
 use Rattle.key_ring.specs.Holding.{Holding}
 use Rattle.key_ring.specs.Modes.{Modes}
-use Rattle.inode_refs.specs.Cached.{Cache, KeyMap, key_at, pins_at, pins_of}
-use Rattle.inode_refs.specs.Evictions.{is_unpinned, has_id, evicted, all_evicted}
+use Rattle.inode_refs.specs.CacheMaps.{Cache, KeyMap, key_at, pins_at, pins_of}
+use Rattle.inode_refs.specs.Evictions.{is_unpinned, has_id, without_derived_keys, without_unpinned_keys}
 use Rattle.inode_refs.specs.declared.node_key.NodeKey.{NodeKey}
 use Rattle.disk_tree.specs.DiskTree.{Disk}
 use Rattle.mount_model.specs.PlainMount.{HandleList}
@@ -45,12 +45,12 @@ retained_was : (keys : KeyMap) (test : ℕ → Bool) (n : ℕ) (k : NodeKey)
     → map.get (map.retain_keys keys test) n ≡ Some k → (test n ≡ true) × (map.get keys n ≡ Some k)
 retained_was keys test n k there = picked (test n) (map.get keys n) k (sym (retained_at keys test n) ∙ there)
 
-pub evicted_was : (cache : Cache) (id : KeyId) (n : ℕ) (k : NodeKey) → map.get (evicted cache id) n ≡ Some k
+pub evicted_was : (cache : Cache) (id : KeyId) (n : ℕ) (k : NodeKey) → map.get (without_derived_keys cache id) n ≡ Some k
     → key_at cache n ≡ Some k
 evicted_was cache id n k there =
     (retained_was cache.keys (λ node. not (is_unpinned cache node && has_id cache id node)) n k there).1
 
-pub all_evicted_was : (cache : Cache) (n : ℕ) (k : NodeKey) → map.get (all_evicted cache) n ≡ Some k
+pub all_evicted_was : (cache : Cache) (n : ℕ) (k : NodeKey) → map.get (without_unpinned_keys cache) n ≡ Some k
     → key_at cache n ≡ Some k
 all_evicted_was cache n k there =
     (retained_was cache.keys (λ node. not (is_unpinned cache node)) n k there).1
@@ -94,10 +94,10 @@ module _ (disk : Disk) (claims : ClaimSet) (cache : Cache) (modes : Modes) (live
   }
 
   -- all keys were removed from the nodes without handles
-  pub all_evicted_rule : (left : Cache) → left ≡ record cache { keys = all_evicted cache }
+  pub all_evicted_rule : (left : Cache) → left ≡ record cache { keys = without_unpinned_keys cache }
       → Forgets disk claims left modes live
   all_evicted_rule left is = subst (λ (c : Cache). Forgets disk claims c modes live) (sym is)
-      (fewer_rule claims (record cache { keys = all_evicted cache }) refl (all_evicted_was cache)
+      (fewer_rule claims (record cache { keys = without_unpinned_keys cache }) refl (all_evicted_was cache)
       (λ n held. retained_at cache.keys (λ node. not (is_unpinned cache node)) n
       ∙ ap (λ b. cond (not b) (key_at cache n) None) (held_pinned n held))
       (λ n k there. rule.file_keys.forgotten n k (all_evicted_was cache n k there)))
@@ -133,7 +133,7 @@ module _ (disk : Disk) (claims : ClaimSet) (cache : Cache) (modes : Modes) (live
         ])
 
     -- a key that is left without a handle is derived from another one
-    evicted_other : (n : ℕ) (k : NodeKey) → map.get (evicted cache id) n ≡ Some k → has_handle live n ≡ false
+    evicted_other : (n : ℕ) (k : NodeKey) → map.get (without_derived_keys cache id) n ≡ Some k → has_handle live n ≡ false
         → same_id id k.id ≡ false
     evicted_other n k there free =
         let was = retained_was cache.keys (λ node. not (is_unpinned cache node && has_id cache id node)) n k
@@ -144,10 +144,10 @@ module _ (disk : Disk) (claims : ClaimSet) (cache : Cache) (modes : Modes) (live
         ∙ other)
 
     -- and its keys were removed from the nodes without handles
-    pub evicted_rule : (left : Cache) → left ≡ record cache { keys = evicted cache id }
+    pub evicted_rule : (left : Cache) → left ≡ record cache { keys = without_derived_keys cache id }
         → Forgets disk after left modes live
     evicted_rule left is = subst (λ (c : Cache). Forgets disk after c modes live) (sym is)
-        (fewer_rule after (record cache { keys = evicted cache id }) refl (evicted_was cache id)
+        (fewer_rule after (record cache { keys = without_derived_keys cache id }) refl (evicted_was cache id)
         (λ n held. retained_at cache.keys (λ node. not (is_unpinned cache node && has_id cache id node)) n
         ∙ ap (λ b. cond (not (b && has_id cache id n)) (key_at cache n) None) (held_pinned n held))
         (λ n k there. elim (cases_Bool (has_handle live n)) [
@@ -179,7 +179,7 @@ module _ (disk : Disk) (claims : ClaimSet) (cache : Cache) (modes : Modes) (live
         kept false h is = refl
 
     -- has nothing that an eviction would take
-    pub evicted_absent : evicted cache id ≡ cache.keys
+    pub evicted_absent : without_derived_keys cache id ≡ cache.keys
     evicted_absent = same_map nat_cmp_total nat_cmp-IsAntisymmetric _ _ (λ n.
         retained_at cache.keys (λ node. not (is_unpinned cache node && has_id cache id node)) n
         ∙ at n (not (is_unpinned cache n && has_id cache id n)) refl)

@@ -10,8 +10,8 @@ use Rattle.user_claims.proofs.ClaimLemmas.{without_claim-absent}
 use Rattle.user_claims.proofs.PresentLemmas.{has_claim-absent, is_present-without_id}
 use Rattle.key_ring.specs.Holding.{SecretMap, HoldsClaimedSecrets, secret_of}
 use Rattle.key_ring.specs.Modes.{Modes, mode_at}
-use Rattle.inode_refs.specs.Cached.{Cache, KeyMap, key_at}
-use Rattle.inode_refs.specs.Evictions.{evicted}
+use Rattle.inode_refs.specs.CacheMaps.{Cache, KeyMap, key_at}
+use Rattle.inode_refs.specs.Evictions.{without_derived_keys}
 use Rattle.inode_refs.specs.declared.node_key.NodeKey.{NodeKey}
 use Rattle.plain_tree.specs.Facts.{AgreesBy}
 use Rattle.disk_tree.specs.DiskTree.{Disk}
@@ -22,23 +22,23 @@ use Rattle.dentry_cache.specs.Names.{NameList, with_pairs}
 use Rattle.dentry_cache.specs.HeldNames.{HoldsNoMore}
 use Rattle.dentry_cache.proofs.NameLemmas.{none_held}
 use Rattle.mount_state.specs.Handles.{Handles}
-use Rattle.mount_state.specs.Held.{HoldsNothing, is_in_use}
+use Rattle.mount_state.specs.KeyUse.{HoldsNothing, is_in_use}
 use Rattle.mount_state.specs.Stored.{stored_node}
-use Rattle.mount_state.specs.StandsFor.{StandsFor}
+use Rattle.mount_state.specs.Represents.{Represents}
 use Rattle.mount_state.specs.declared.state.MountState.{MountState}
 use Rattle.mount_state.proofs.CachedLemmas.{stand_fewer}
 use Rattle.mount_state.proofs.RuleLemmas.{nothing_held}
-use Rattle.mount_keys.specs.Taken.{SameButKeyed, LosesClaim, LosesAllClaims, keys_kept}
+use Rattle.mount_keys.specs.ClaimChanges.{SameButKeyed, LosesClaim, LosesAllClaims, remaining_keys}
 use Rattle.mount_keys.proofs.EvictionLemmas.{evicted_was, evicted_absent}
 use Rattle.mount_keys.proofs.SecretLemmas.{left_was, removed_was, removed_none, removed_absent}
 
-pub fewer_stand : (old new : MountState) (m : PlainMount) (claims : ClaimSet) → StandsFor old m
+pub fewer_stand : (old new : MountState) (m : PlainMount) (claims : ClaimSet) → Represents old m
     → SameButKeyed old new → HasKeys claims m.raws
     → new.ring.claims ≡ claims
     → ((id : KeyId) (raw : List ℕ) → secret_of new.ring id ≡ Some raw → secret_of old.ring id ≡ Some raw)
     → ((n : ℕ) (k : NodeKey) → key_at new.inodes n ≡ Some k → key_at old.inodes n ≡ Some k)
     → HoldsNoMore old.names new.names
-    → StandsFor new (record m { claims = claims })
+    → Represents new (record m { claims = claims })
 fewer_stand old new m claims st same well are secrets cached names = record {
   well = record { keys = well; nodes = st.well.nodes; handles = st.well.handles; records = st.well.records };
   tree = record {
@@ -62,10 +62,10 @@ fewer_stand old new m claims st same well are secrets cached names = record {
 -- ---- a claim, or all on a key, were removed
 
 kept_was : (cache : Cache) (claims : ClaimSet) (id : KeyId) (n : ℕ) (k : NodeKey)
-    → map.get (keys_kept cache claims id) n ≡ Some k → key_at cache n ≡ Some k
+    → map.get (remaining_keys cache claims id) n ≡ Some k → key_at cache n ≡ Some k
 kept_was cache claims id n k = by (is_present claims id)
   where
-    by : (b : Bool) → map.get (cond b cache.keys (evicted cache id)) n ≡ Some k → key_at cache n ≡ Some k
+    by : (b : Bool) → map.get (cond b cache.keys (without_derived_keys cache id)) n ≡ Some k → key_at cache n ≡ Some k
     by true there = there
     by false there = evicted_was cache id n k there
 
@@ -79,9 +79,9 @@ fewer_names old new left is fewer = λ pair held. fewer pair (subst (λ (n : Nam
 pub no_names_more : (old new : NameList) → new ≡ with_pairs old [] → HoldsNoMore old new
 no_names_more old new is = fewer_names old new (with_pairs old []) is (names_were old true)
 
-pub lost_stand : (old new : MountState) (m : PlainMount) (uid : ℕ) (id : KeyId) → StandsFor old m
+pub lost_stand : (old new : MountState) (m : PlainMount) (uid : ℕ) (id : KeyId) → Represents old m
     → SameButKeyed old new → LosesClaim old new uid id
-    → StandsFor new (record m { claims = without_claim m.claims id uid })
+    → Represents new (record m { claims = without_claim m.claims id uid })
 lost_stand old new m uid id st same lost =
     fewer_stand old new m (without_claim m.claims id uid) st same
     (HasKeys-without_claim m.claims m.raws id uid st.well.keys)
@@ -93,9 +93,9 @@ lost_stand old new m uid id st same lost =
     (fewer_names old.names new.names _ lost.names
     (names_were old.names (is_present old.ring.claims id && not (is_present new.ring.claims id))))
 
-pub cleared_stand : (old new : MountState) (m : PlainMount) (id : KeyId) → StandsFor old m
+pub cleared_stand : (old new : MountState) (m : PlainMount) (id : KeyId) → Represents old m
     → SameButKeyed old new → LosesAllClaims old new id
-    → StandsFor new (record m { claims = without_id m.claims id })
+    → Represents new (record m { claims = without_id m.claims id })
 cleared_stand old new m id st same lost =
     fewer_stand old new m (without_id m.claims id) st same
     (HasKeys-without_id m.claims m.raws id st.well.keys)
@@ -112,7 +112,7 @@ loses_none s uid id exact absent = record {
   claims = sym (without_claim-absent s.ring.claims id uid (has_claim-absent s.ring.claims id uid absent));
   secrets = sym (ap (λ b. cond b s.ring.secrets (map.remove s.ring.secrets id)) absent
       ∙ removed_absent s.ring.secrets id (exact id ∙ absent));
-  cached = sym (ap (λ b. cond b s.inodes.keys (evicted s.inodes id)) absent
+  cached = sym (ap (λ b. cond b s.inodes.keys (without_derived_keys s.inodes id)) absent
       ∙ evicted_absent s.disk s.ring.claims s.inodes s.modes s.handles.live s.forgets id absent);
   names = sym (ap (λ b. cond (b && not (is_present s.ring.claims id)) (with_pairs s.names []) s.names) absent);
 }
@@ -122,9 +122,9 @@ loses_none s uid id exact absent = record {
 module _ (old new : MountState) (id : KeyId) (same : SameButKeyed old new)
     (idle : is_in_use old.disk old.handles.live id ≡ false)
     (modeless : (kind : KeyKind) → mode_at old.modes id kind ≡ None) where
-  nothing_left : is_some (secret_of new.ring id) ≡ false → is_present new.ring.claims id ≡ false
+  end_of_record : is_some (secret_of new.ring id) ≡ false → is_present new.ring.claims id ≡ false
       → HoldsNothing new.disk new.ring new.inodes new.modes new.names id
-  nothing_left secret absent =
+  end_of_record secret absent =
       nothing_held new.disk new.ring new.inodes new.modes new.handles.live new.forgets id new.names new.remembers secret absent
       ((λ i. is_in_use (same.disk i) (ap (λ (h : Handles). h.live) same.handles i) id) ∙ idle)
       (λ kind. ap (λ (x : Modes). mode_at x id kind) same.modes ∙ modeless kind)
@@ -132,12 +132,12 @@ module _ (old new : MountState) (id : KeyId) (same : SameButKeyed old new)
   pub lost_nothing : (uid : ℕ) → LosesClaim old new uid id → is_present new.ring.claims id ≡ false
       → HoldsNothing new.disk new.ring new.inodes new.modes new.names id
   lost_nothing uid lost absent =
-      nothing_left (ap (λ (x : SecretMap). is_some (map.get x id))
+      end_of_record (ap (λ (x : SecretMap). is_some (map.get x id))
       (lost.secrets ∙ ap (λ b. cond b old.ring.secrets (map.remove old.ring.secrets id)) absent)
       ∙ ap is_some (removed_none old.ring.secrets id)) absent
 
   pub cleared_nothing : LosesAllClaims old new id → HoldsNothing new.disk new.ring new.inodes new.modes new.names id
   cleared_nothing lost =
-      nothing_left (ap (λ (x : SecretMap). is_some (map.get x id)) lost.secrets
+      end_of_record (ap (λ (x : SecretMap). is_some (map.get x id)) lost.secrets
       ∙ ap is_some (removed_none old.ring.secrets id))
       (ap (λ (cs : ClaimSet). is_present cs id) lost.claims ∙ is_present-without_id old.ring.claims id)

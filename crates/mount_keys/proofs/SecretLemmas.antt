@@ -10,7 +10,7 @@ use Rattle.policy_ctx.proofs.KeyIdLemmas.{same_id-refl, same_id-eq}
 use Rattle.user_claims.specs.Claims.{ClaimSet, id_cmp}
 use Rattle.user_claims.specs.ClaimCounts.{is_present}
 use Rattle.user_claims.proofs.ClaimOrder.{id_cmp_total, id_cmp-IsAntisymmetric, id_ties}
-use Rattle.key_ring.specs.Holding.{SecretMap, secrets_left}
+use Rattle.key_ring.specs.Holding.{SecretMap, remaining_secrets}
 
 is_none : (o : Option (List ℕ)) → is_some o ≡ false → o ≡ None
 is_none None none = refl
@@ -28,7 +28,7 @@ removed_was secrets id q raw there =
     (sym (get-remove id_cmp_total secrets id q) ∙ there)
 
 pub left_was : (secrets : SecretMap) (claims : ClaimSet) (id q : KeyId) (raw : List ℕ)
-    → map.get (secrets_left secrets claims id) q ≡ Some raw → map.get secrets q ≡ Some raw
+    → map.get (remaining_secrets secrets claims id) q ≡ Some raw → map.get secrets q ≡ Some raw
 left_was secrets claims id q raw = by (is_present claims id)
   where
     by : (b : Bool) → map.get (cond b secrets (map.remove secrets id)) q ≡ Some raw → map.get secrets q

@@ -1,2 +1,2 @@
-pub mod Told
-pub mod Taken
+pub mod KeyReplies
+pub mod ClaimChanges

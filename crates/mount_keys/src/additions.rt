@@ -8,12 +8,12 @@ ghost use Rattle.mount_model.specs.PlainMount.{PlainMount};
 ghost use Rattle.mount_model.specs.ClaimHistory.{is_refused};
 ghost use Rattle.mount_model.specs.KeyAnswers.{answer_to_add_key};
 ghost use Rattle.mount_model.specs.Lawful.{AgreesWith};
-ghost use Rattle.mount_state.specs.Given.{IsToldOrNoMemory, IsGivenOrNoMemory};
-ghost use Rattle.mount_keys.specs.Told.{add_fault};
-ghost use Rattle.mount_keys.specs.Taken.{GainsClaim, SameButRing};
-ghost use Rattle.mount_state.specs.Held.{key_state};
+ghost use Rattle.mount_state.specs.AnswerOf.{IsReplyOrNoMemory, IsAnswerOrNoMemory};
+ghost use Rattle.mount_keys.specs.KeyReplies.{add_fault};
+ghost use Rattle.mount_keys.specs.ClaimChanges.{GainsClaim, SameButRing};
+ghost use Rattle.mount_state.specs.KeyUse.{key_state};
 ghost use Rattle.mount_state.specs.SameBut.{IsSame};
-ghost use Rattle.mount_state.specs.StandsFor.{StandsFor};
+ghost use Rattle.mount_state.specs.Represents.{Represents};
 
 use fsc_keys::RawKey;
 use key_ring::ClaimFault;
@@ -24,24 +24,24 @@ use std::alloc::Global;
 /// Claims the key of these bytes for the user, and returns its identifier. The key is present from then
 /// on, whatever it was before, and all that is cached remains.
 ///
-/// Refused with Inval for fewer than `LEAST_RAW_KEY_BYTES` or more than `MOST_RAW_KEY_BYTES`. Then
-/// refused with Quota if the claim would be a new one and the user has `MOST_CLAIMS`. Else it may be out
+/// Refused with Inval for fewer than `MIN_RAW_KEY_BYTES` or more than `MAX_RAW_KEY_BYTES`. Then
+/// refused with Quota if the claim would be a new one and the user has `MAX_CLAIMS`. Else it may be out
 /// of memory. After a refusal the state is as before. The copy that the call makes of the bytes is wiped;
 /// the caller's own is not.
 pub fn add_key(alloc: Global, state: &mut MountState, uid: u32, raw: &Bytes) -> Reply
     ensures refused { IfSome (add_fault state.old.ring.claims uid raw.now)
         (λ refusal. result ≡ Reply.Refused refusal) }
     ensures accepted { IfNone (add_fault state.old.ring.claims uid raw.now)
-        (IsToldOrNoMemory (Reply.Added (key_id_of raw.now)) result) }
+        (IsReplyOrNoMemory (Reply.Added (key_id_of raw.now)) result) }
     ensures kept { is_refused result ≡ true → IsSame state.old state.new }
     ensures gained { is_refused result ≡ false → GainsClaim state.old state.new uid raw.now }
     ensures present { is_refused result ≡ false
         → key_state state.new.disk state.new.ring.claims state.new.handles.live (key_id_of raw.now)
         ≡ Present }
     ensures same { SameButRing state.old state.new }
-    ensures stands { (m : PlainMount) → StandsFor state.old m
+    ensures represents { (m : PlainMount) → Represents state.old m
         → (is_refused result ≡ false → AgreesWith m.raws raw.now)
-        → IsGivenOrNoMemory m (answer_to_add_key m uid raw.now) result state.new }
+        → IsAnswerOrNoMemory m (answer_to_add_key m uid raw.now) result state.new }
 {
     let mut key = match RawKey::read(raw.as_slice()) {
         Ok(key) => key,

@@ -7,7 +7,7 @@ use Rattle.std.proofs.lemmas.Slice.Eq.{starts_is}
 use Rattle.short_bytes.specs.Label.{is_label, label_of}
 use Rattle.script_words.specs.Records.{record_of, record_name}
 use Rattle.mount_links.specs.declared.asked.Asked.TheVariants.{Load}
-use Rattle.mount_links.specs.LinkSteps.{load_asked}
+use Rattle.mount_links.specs.LinkSteps.{asked_of_load}
 use Rattle.script_words.specs.declared.record_words.Record.{Record}
 use Rattle.script_words.specs.declared.record_words.Record.TheVariants.{Protector, Policy}
 
@@ -44,10 +44,10 @@ named_back name label e = by_test (starts_with nat_eq name (codes "protector/"))
     by_test false is h = absurd (policy_or_none (starts_with nat_eq name (codes "policy/")) h)
 
 -- a record whose loading asks for a protector is that of this protector
-loaded_is : (it : Record) (label : List ℕ) → load_asked (Some it) ≡ Load label → it ≡ Protector label
+loaded_is : (it : Record) (label : List ℕ) → asked_of_load (Some it) ≡ Load label → it ≡ Protector label
 loaded_is (Protector x) label e = cc
 loaded_is (Policy x) label e = cc
 
 pub asked_back : (name : List ℕ) (it : Record) (label : List ℕ)
-    → record_of name ≡ Some it → load_asked (Some it) ≡ Load label → name ≡ record_name (Protector label)
+    → record_of name ≡ Some it → asked_of_load (Some it) ≡ Load label → name ≡ record_name (Protector label)
 asked_back name it label e f = named_back name label (e ∙ ap Some (loaded_is it label f))

@@ -3,38 +3,38 @@ use Rattle.std.proofs.Common.{◌≡◌, ℕ, Bool, true, false, cond, List, [],
 use Rattle.mount_model.specs.declared.reply.Reply.{Reply}
 use Rattle.mount_model.specs.declared.reply.Reply.TheVariants.{Refused}
 use Rattle.mount_model.specs.declared.reply.Refusal.TheVariants.{NoMemory}
-use Rattle.mount_model.specs.History.{MountEntry, is_want_of_memory}
+use Rattle.mount_model.specs.History.{MountEntry, is_out_of_memory}
 use Rattle.mount_links.specs.declared.asked.Asked.{Asked}
 use Rattle.mount_links.specs.declared.asked.Asked.TheVariants.{Load, Store, Other}
 use Rattle.mount_links.specs.declared.step.LinkStep.{LinkStep}
 use Rattle.mount_links.specs.declared.step.LinkStep.TheVariants.{Alone, Followed, Looked, NotMade}
 use Rattle.mount_links.specs.LinkSteps.{asked_of, is_link, IsStepOf}
-use Rattle.mount_links.specs.SaidSteps.{IsSaid, StepsAreSaid, step_said}
+use Rattle.mount_links.specs.StepsOfReplies.{IsStepOfReplies, StepsAreOfReplies, step_of_replies}
 
 -- of a call that asks for this: by the reply of the first call on the own mount
 abbrev Said : LinkStep → ℕ × MountEntry → Asked → Type 0
-Said step x asked = (asked_of x.1.call.op ≡ asked) → IsStepOf asked x.1.reply step → IsSaid step x
+Said step x asked = (asked_of x.1.call.op ≡ asked) → IsStepOf asked x.1.reply step → IsStepOfReplies step x
 
 alone_said : (x : ℕ × MountEntry) (asked : Asked) → asked_of x.1.call.op ≡ asked
-    → Alone ≡ step_said asked x.0 x.1.reply 0 → IsSaid Alone x
+    → Alone ≡ step_of_replies asked x.0 x.1.reply 0 → IsStepOfReplies Alone x
 alone_said x asked asks said = record {
   first = x;
   others = [];
   on_own = refl;
   there = 0;
   on_far = inl refl;
-  said = said ∙ ap (λ (a : Asked). step_said a x.0 x.1.reply 0) (sym asks);
+  said = said ∙ ap (λ (a : Asked). step_of_replies a x.0 x.1.reply 0) (sym asks);
 }
 
 followed_said : (x : ℕ × MountEntry) (asked : Asked) (label : List ℕ) (reply : Reply) (there : ℕ) → asked_of x.1.call.op ≡ asked
-    → Followed label reply there ≡ step_said asked x.0 reply there → IsSaid (Followed label reply there) x
+    → Followed label reply there ≡ step_of_replies asked x.0 reply there → IsStepOfReplies (Followed label reply there) x
 followed_said x asked label reply there asks said = record {
   first = _;
   others = [];
   on_own = refl;
   there = there;
   on_far = inr refl;
-  said = said ∙ ap (λ (a : Asked). step_said a x.0 reply there) (sym asks);
+  said = said ∙ ap (λ (a : Asked). step_of_replies a x.0 reply there) (sym asks);
 }
 
 said_of : (asked : Asked) (step : LinkStep) (x : ℕ × MountEntry) → Said step x asked
@@ -67,5 +67,5 @@ said_of (Store label) (NotMade named) x asks is = record {
   said = rw asks (ap (λ (l : List ℕ). NotMade l) is.0);
 }
 
-pub steps_are_said : StepsAreSaid
+pub steps_are_said : StepsAreOfReplies
 steps_are_said step x is = said_of (asked_of x.1.call.op) step x refl is

@@ -4,4 +4,4 @@ pub mod LinkCalls
 pub mod ShownParts
 pub mod StepLaws
 pub mod PortLaws
-pub mod SaidSteps
+pub mod StepsOfReplies

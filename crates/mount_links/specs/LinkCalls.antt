@@ -35,20 +35,20 @@ abbrev pub link_view : {P Q : Type 0} → P → Q → ℕ → List LinkStep → 
 link_view own far left steps = record { own = own; far = far; left = left; steps = steps }
 
 -- the ports are as after the step of one call
-pub record CameByOne {P Q : Type 0} (own_came : PlacedCalls → P → Type 0)
-    (far_came : PlacedCalls → Q → Type 0) (step : LinkStep) (x : ℕ × MountEntry) (own : P) (far : Q)
+pub record AfterOneCall {P Q : Type 0} (own_after_calls : PlacedCalls → P → Type 0)
+    (far_after_calls : PlacedCalls → Q → Type 0) (step : LinkStep) (x : ℕ × MountEntry) (own : P) (far : Q)
     : Type 0 where
   pub is_step : IsStep step x
-  pub on_own : own_came (own_part load_call step x) own
-  pub on_far : far_came (far_part step x) far
+  pub on_own : own_after_calls (own_part load_call step x) own
+  pub on_far : far_after_calls (far_part step x) far
 
 -- these calls turn the first port into the second: each has its step, and the two ports are as after the
 -- calls that these steps make
-pub record LinkCame {P Q : Type 0} (own_came : P → PlacedCalls → P → Type 0)
-    (far_came : Q → PlacedCalls → Q → Type 0)
+pub record LinkAfterCalls {P Q : Type 0} (own_after_calls : P → PlacedCalls → P → Type 0)
+    (far_after_calls : Q → PlacedCalls → Q → Type 0)
     (old : LinkView P Q) (calls : PlacedCalls) (new : LinkView P Q) : Type 0 where
   pub steps : List LinkStep
   pub are_steps : AreSteps steps calls
   pub kept : new.steps ≡ old.steps ++ steps
-  pub on_own : own_came old.own (own_parts load_call steps calls) new.own
-  pub on_far : far_came old.far (far_parts steps calls) new.far
+  pub on_own : own_after_calls old.own (own_parts load_call steps calls) new.own
+  pub on_far : far_after_calls old.far (far_parts steps calls) new.far

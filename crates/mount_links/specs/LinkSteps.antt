@@ -7,7 +7,7 @@ use Rattle.mount_model.specs.declared.call.Op.TheVariants.{MetaLoad, MetaStore}
 use Rattle.mount_model.specs.declared.reply.Reply.{Reply}
 use Rattle.mount_model.specs.declared.reply.Reply.TheVariants.{Held, Refused}
 use Rattle.mount_model.specs.declared.reply.Refusal.TheVariants.{NoMemory}
-use Rattle.mount_model.specs.History.{is_want_of_memory}
+use Rattle.mount_model.specs.History.{is_out_of_memory}
 use Rattle.protector_meta.specs.LinkText.{link_text}
 use Rattle.script_words.specs.Records.{record_of}
 use Rattle.script_words.specs.declared.record_words.Record.{Record}
@@ -18,18 +18,18 @@ use Rattle.mount_links.specs.declared.step.LinkStep.{LinkStep}
 use Rattle.mount_links.specs.declared.step.LinkStep.TheVariants.{Alone, Followed, Looked, NotMade}
 
 -- what is asked of the record that has a name: only that of a protector may be a link
-abbrev pub load_asked : Option Record → Asked
-load_asked (Some (Protector label)) = Load label
-load_asked other = Other
+abbrev pub asked_of_load : Option Record → Asked
+asked_of_load (Some (Protector label)) = Load label
+asked_of_load other = Other
 
-abbrev pub store_asked : Option Record → Asked
-store_asked (Some (Protector label)) = Store label
-store_asked other = Other
+abbrev pub asked_of_store : Option Record → Asked
+asked_of_store (Some (Protector label)) = Store label
+asked_of_store other = Other
 
 -- what a call asks for: that the record of the protector with a label is loaded or stored, or something else
 abbrev pub asked_of : Op → Asked
-asked_of (MetaLoad name) = load_asked (record_of name)
-asked_of (MetaStore name expected bytes) = store_asked (record_of name)
+asked_of (MetaLoad name) = asked_of_load (record_of name)
+asked_of (MetaStore name expected bytes) = asked_of_store (record_of name)
 asked_of other = Other
 
 -- the reply is exactly the link to the protector of this label, and no byte else
@@ -52,7 +52,7 @@ abbrev pub IsStored : List ℕ → Reply → LinkStep → Type 0
 IsStored label reply Alone = ⊥
 IsStored label reply (Followed named first there) = (named ≡ label) × (is_link label first ≡ true)
 IsStored label reply (Looked named place first) =
-    (named ≡ label) × (is_link label first ≡ false) × (is_want_of_memory first ≡ false)
+    (named ≡ label) × (is_link label first ≡ false) × (is_out_of_memory first ≡ false)
 IsStored label reply (NotMade named) = (named ≡ label) × (reply ≡ Refused NoMemory)
 
 -- the possible steps of a call that asks for this; every other call is made on the own mount as it is

@@ -29,11 +29,11 @@ pub(crate) fn asked_of(op: &Op) -> Asked
 {
     match op {
         Op::MetaLoad { name } => match read_record(name.as_slice()) {
-            Some(record) => load_asked(&record),
+            Some(record) => asked_of_load(&record),
             None => Asked::Other,
         },
         Op::MetaStore { name, .. } => match read_record(name.as_slice()) {
-            Some(record) => store_asked(&record),
+            Some(record) => asked_of_store(&record),
             None => Asked::Other,
         },
         _ => Asked::Other,
@@ -41,8 +41,8 @@ pub(crate) fn asked_of(op: &Op) -> Asked
 }
 
 // What a load of this record asks for.
-fn load_asked(record: &Record) -> Asked
-    ensures { result ≡ spec.load_asked (Some «record».now) }
+fn asked_of_load(record: &Record) -> Asked
+    ensures { result ≡ spec.asked_of_load (Some «record».now) }
 {
     match record {
         Record::Protector(label) => Asked::Load(*label),
@@ -51,8 +51,8 @@ fn load_asked(record: &Record) -> Asked
 }
 
 // What a store of this record asks for.
-fn store_asked(record: &Record) -> Asked
-    ensures { result ≡ spec.store_asked (Some «record».now) }
+fn asked_of_store(record: &Record) -> Asked
+    ensures { result ≡ spec.asked_of_store (Some «record».now) }
 {
     match record {
         Record::Protector(label) => Asked::Store(*label),
@@ -71,8 +71,8 @@ pub(crate) fn is_link(label: &Label, reply: &Reply) -> bool
 }
 
 // Whether the call was out of memory.
-pub(crate) fn is_want_of_memory(reply: &Reply) -> bool
-    ensures { result ≡ history.is_want_of_memory reply.now }
+pub(crate) fn is_out_of_memory(reply: &Reply) -> bool
+    ensures { result ≡ history.is_out_of_memory reply.now }
 {
     matches!(reply, Reply::Refused(Refusal::NoMemory))
 }

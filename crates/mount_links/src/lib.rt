@@ -5,13 +5,13 @@
 mod asked;
 mod laws;
 mod linked;
+mod name_buffer;
 mod on_both;
 mod port;
-mod room;
 mod step;
 
 pub use asked::Asked;
-pub use laws::{shown_histories_are_of_the_calls, steps_are_said_by_replies};
-pub use on_both::{ShownList, ShownOnBoth, split};
+pub use laws::{logged_histories_are_of_the_calls, steps_are_of_replies};
+pub use on_both::{LoggedList, LoggedOnBoth, split};
 pub use port::LinkPort;
 pub use step::LinkStep;

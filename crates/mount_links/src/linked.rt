@@ -3,13 +3,13 @@
 ghost use Rattle.std.specs.Prelude.{◌≡◌, ◌+◌, ◌<◌, ◌≤◌, [], ◌∷◌};
 ghost use Rattle.call_history.specs.Entries.{entry};
 ghost use Rattle.mount_model.specs.Fits.{Fits};
-ghost use Rattle.mount_links.specs.LinkCalls.{CameByOne, load_call};
+ghost use Rattle.mount_links.specs.LinkCalls.{AfterOneCall, load_call};
 ghost use Rattle.mount_links.specs.LinkSteps as spec;
 ghost use Rattle.mount_links.specs.declared.step.LinkStep.TheVariants.{Followed};
 ghost use Rattle.mount_links.specs.declared.asked.Asked.TheVariants.{Load, Other, Store};
 
-use crate::asked::{Asked, asked_of, is_link, is_want_of_memory};
-use crate::room::NameRoom;
+use crate::asked::{Asked, asked_of, is_link, is_out_of_memory};
+use crate::name_buffer::NameBuffer;
 use crate::step::LinkStep;
 use mount_model::{Call, MountPort, Op, Placed};
 use short_bytes::Label;
@@ -26,13 +26,13 @@ pub(crate) fn made<P: MountPort, Q: MountPort>(
     own: &mut P,
     far: &mut Q,
     call: &Call,
-    room: NameRoom,
+    room: NameBuffer,
 ) -> Linked
     requires same { P.who own.old ≡ Q.who far.old }
     requires left { 2 ≤ P.calls_left own.old }
     requires far_left { 1 ≤ Q.calls_left far.old }
     requires fits { Fits call.now }
-    ensures came { CameByOne (P.came own.old) (Q.came far.old) result.step
+    ensures after_calls { AfterOneCall (P.after_calls own.old) (Q.after_calls far.old) result.step
         (result.placed.place, entry (P.who own.old) call.now result.placed.reply) own.new far.new }
     ensures caller { P.who own.new ≡ P.who own.old }
     ensures far_caller { Q.who far.new ≡ Q.who far.old }
@@ -53,7 +53,7 @@ fn alone<P: MountPort, Q: MountPort>(own: &mut P, far: &mut Q, call: &Call) -> L
     requires asked { spec.asked_of call.now.op ≡ Other }
     requires left { 2 ≤ P.calls_left own.old }
     requires fits { Fits call.now }
-    ensures came { CameByOne (P.came own.old) (Q.came far.old) result.step
+    ensures after_calls { AfterOneCall (P.after_calls own.old) (Q.after_calls far.old) result.step
         (result.placed.place, entry (P.who own.old) call.now result.placed.reply) own.new far.new }
     ensures caller { P.who own.new ≡ P.who own.old }
     ensures far { far.new ≡ far.old }
@@ -75,7 +75,7 @@ fn load<P: MountPort, Q: MountPort>(own: &mut P, far: &mut Q, call: &Call, label
     requires left { 2 ≤ P.calls_left own.old }
     requires far_left { 1 ≤ Q.calls_left far.old }
     requires fits { Fits call.now }
-    ensures came { CameByOne (P.came own.old) (Q.came far.old) result.step
+    ensures after_calls { AfterOneCall (P.after_calls own.old) (Q.after_calls far.old) result.step
         (result.placed.place, entry (P.who own.old) call.now result.placed.reply) own.new far.new }
     ensures caller { P.who own.new ≡ P.who own.old }
     ensures far_caller { Q.who far.new ≡ Q.who far.old }
@@ -101,14 +101,14 @@ fn store<P: MountPort, Q: MountPort>(
     far: &mut Q,
     call: &Call,
     label: Label,
-    room: NameRoom,
+    room: NameBuffer,
 ) -> Linked
     requires same { P.who own.old ≡ Q.who far.old }
     requires asked { spec.asked_of call.now.op ≡ Store label }
     requires left { 2 ≤ P.calls_left own.old }
     requires far_left { 1 ≤ Q.calls_left far.old }
     requires fits { Fits call.now }
-    ensures came { CameByOne (P.came own.old) (Q.came far.old) result.step
+    ensures after_calls { AfterOneCall (P.after_calls own.old) (Q.after_calls far.old) result.step
         (result.placed.place, entry (P.who own.old) call.now result.placed.reply) own.new far.new }
     ensures caller { P.who own.new ≡ P.who own.old }
     ensures far_caller { Q.who far.new ≡ Q.who far.old }
@@ -122,7 +122,7 @@ fn store<P: MountPort, Q: MountPort>(
         let stored = far.call(call);
         return followed(label, first, stored);
     }
-    if is_want_of_memory(&first.reply) {
+    if is_out_of_memory(&first.reply) {
         return Linked {
             placed: first,
             step: LinkStep::NotMade { label },
@@ -159,9 +159,9 @@ fn followed(label: Label, link: Placed, there: Placed) -> Linked
 }
 
 // Loads the protector's record on the own mount, for the user of the call.
-fn look<P: MountPort>(own: &mut P, call: &Call, label: &Label, room: NameRoom) -> Placed
+fn look<P: MountPort>(own: &mut P, call: &Call, label: &Label, room: NameBuffer) -> Placed
     requires left { 2 ≤ P.calls_left own.old }
-    ensures came { P.came own.old
+    ensures after_calls { P.after_calls own.old
         ((result.place, entry (P.who own.old) (load_call label.now call.now) result.reply) ∷ []) own.new }
     ensures caller { P.who own.new ≡ P.who own.old }
     ensures one_fewer { P.calls_left own.new + 1 ≡ P.calls_left own.old }

@@ -2,11 +2,11 @@
 
 ghost use Rattle.std.specs.Prelude.{◌≡◌, ◌*◌, ◌≤◌, [], IfOk};
 ghost use Rattle.std.specs.Vec.{vec_len};
-ghost use Rattle.mount_links.specs.LinkCalls.{LinkCame, link_view};
-ghost use Rattle.mount_links.specs.PortLaws.{LinkCame-none, LinkCame-on, LinkCame-caller};
+ghost use Rattle.mount_links.specs.LinkCalls.{LinkAfterCalls, link_view};
+ghost use Rattle.mount_links.specs.PortLaws.{LinkAfterCalls-none, LinkAfterCalls-on, LinkAfterCalls-caller};
 
 use crate::linked::made;
-use crate::room::NameRoom;
+use crate::name_buffer::NameBuffer;
 use crate::step::LinkStep;
 use mount_model::{Call, MountPort, Placed};
 use std::alloc::{AllocError, Global};
@@ -21,7 +21,7 @@ pub struct LinkPort<P: MountPort + Drop, Q: MountPort + Drop> {
     left: u64,
     // With capacity for each call that is left.
     steps: Vec<LinkStep>,
-    names: Vec<NameRoom>,
+    names: Vec<NameBuffer>,
 }
 
 impl<P: MountPort + Drop, Q: MountPort + Drop> Model for LinkPort<P, Q> {
@@ -70,12 +70,12 @@ impl<P: MountPort + Drop, Q: MountPort + Drop> LinkPort<P, Q> {
 }
 
 // Allocates `count` buffers for names.
-fn name_rooms(alloc: Global, count: u64) -> Result<Vec<NameRoom>, AllocError>
+fn name_rooms(alloc: Global, count: u64) -> Result<Vec<NameBuffer>, AllocError>
     ensures { IfOk result (λ rooms. count ≤ vec_len rooms) }
 {
     let mut rooms = Vec::with_capacity(alloc, count as usize)?;
     for _ in 0..count {
-        rooms.push(NameRoom::new(alloc)?)?;
+        rooms.push(NameBuffer::new(alloc)?)?;
     }
     Ok(rooms)
 }
@@ -89,7 +89,7 @@ impl<P: MountPort + Drop, Q: MountPort + Drop> MountPort for LinkPort<P, Q> {
 
     ghost floor = { λ port. P.floor port.own };
 
-    ghost came = { LinkCame P.came Q.came };
+    ghost after_calls = { LinkAfterCalls P.after_calls Q.after_calls };
 
     fn caller(&self) -> u32 {
         self.own.caller()
@@ -107,9 +107,9 @@ impl<P: MountPort + Drop, Q: MountPort + Drop> MountPort for LinkPort<P, Q> {
         made.placed
     }
 
-    ghost by_none = { LinkCame-none P.came Q.came P.by_none Q.by_none };
+    ghost by_none = { LinkAfterCalls-none P.after_calls Q.after_calls P.by_none Q.by_none };
 
-    ghost by_more = { LinkCame-on P.came Q.came P.by_more Q.by_more };
+    ghost by_more = { LinkAfterCalls-on P.after_calls Q.after_calls P.by_more Q.by_more };
 
-    ghost one_caller = { LinkCame-caller P.came Q.came P.who P.one_caller };
+    ghost one_caller = { LinkAfterCalls-caller P.after_calls Q.after_calls P.who P.one_caller };
 }

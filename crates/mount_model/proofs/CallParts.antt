@@ -14,8 +14,8 @@ use Rattle.byte_words.specs.Contents.{with_bytes}
 use Rattle.byte_words.proofs.ContentsLemmas.{length-with_bytes, AreBytes-with_bytes}
 use Rattle.plain_tree.specs.Nodes.{Body, Dir, File, Link}
 use Rattle.plain_tree.specs.BodyChanges.{with_contents}
-use Rattle.mount_limits.specs.declared.TheConstants.{MOST_FILE_BYTES}
-use Rattle.name_crypt.specs.declared.limits.TheConstants.{MOST_NAME_BYTES}
+use Rattle.mount_limits.specs.declared.TheConstants.{MAX_FILE_BYTES}
+use Rattle.name_crypt.specs.declared.limits.TheConstants.{MAX_NAME_BYTES}
 use Rattle.mount_model.specs.Carried.{IsTarget}
 use Rattle.mount_model.specs.PlainMount.{PlainMount, raw_in}
 use Rattle.mount_model.specs.PolicyAnswers.{may_use}
@@ -41,7 +41,7 @@ pub fresh_link : (target : List ℕ) → IsTarget target → is_long_target (Lin
 fresh_link target is short = record {
   children = refl;
   contents = refl;
-  small = (is, ltb-false MOST_NAME_BYTES (length target) short);
+  small = (is, ltb-false MAX_NAME_BYTES (length target) short);
 }
 
 -- ---- a policy that is set
@@ -77,14 +77,14 @@ none_written : (offset : ℕ) (contents : List ℕ) → with_bytes offset [] con
 unfolding with_bytes
 none_written offset contents = refl
 
-longer : (offset : ℕ) (bytes contents : List ℕ) → offset + length bytes ≤ MOST_FILE_BYTES → length contents ≤ MOST_FILE_BYTES → length (with_bytes offset bytes contents) ≤ MOST_FILE_BYTES
-longer offset [] contents small few = subst (λ xs. length xs ≤ MOST_FILE_BYTES) (sym (none_written offset contents)) few
+longer : (offset : ℕ) (bytes contents : List ℕ) → offset + length bytes ≤ MAX_FILE_BYTES → length contents ≤ MAX_FILE_BYTES → length (with_bytes offset bytes contents) ≤ MAX_FILE_BYTES
+longer offset [] contents small few = subst (λ xs. length xs ≤ MAX_FILE_BYTES) (sym (none_written offset contents)) few
 longer offset (b ∷ bs) contents small few =
     let is : length (with_bytes offset (b ∷ bs) contents) ≡ max (length contents) (offset + length (b ∷ bs)) = length-with_bytes offset (b ∷ bs) contents (omega arith) in
     omega arith
 
-pub body_written : (offset : ℕ) (bytes : List ℕ) → AreBytes bytes → nat_lt MOST_FILE_BYTES (offset + length bytes) ≡ false → (b : Body) → IsBody b → IsBody (with_contents (with_bytes offset bytes) b)
-body_written offset bytes are small (Dir cs) is = is
-body_written offset bytes are small (File contents) is =
-    (AreBytes-with_bytes offset bytes contents are is.0, longer offset bytes contents (ltb-false MOST_FILE_BYTES (offset + length bytes) small) is.1)
-body_written offset bytes are small (Link target) is = is
+pub body_after_write : (offset : ℕ) (bytes : List ℕ) → AreBytes bytes → nat_lt MAX_FILE_BYTES (offset + length bytes) ≡ false → (b : Body) → IsBody b → IsBody (with_contents (with_bytes offset bytes) b)
+body_after_write offset bytes are small (Dir cs) is = is
+body_after_write offset bytes are small (File contents) is =
+    (AreBytes-with_bytes offset bytes contents are is.0, longer offset bytes contents (ltb-false MAX_FILE_BYTES (offset + length bytes) small) is.1)
+body_after_write offset bytes are small (Link target) is = is

@@ -2,15 +2,15 @@
 use Rattle.std.proofs.Common.{◌≡◌, ◌≢◌, ℕ, ◌≤◌, Bool, true, false, cond, not, ◌||◌, [], ◌∷◌, length, eqb, Some, option_map, is_some, inl, inr, refl, sym, ap, subst, ◌∙◌, arith}
 use Rattle.std.specs.List.{list_any, find, filter, IsDistinct, AllByRecursion}
 use Rattle.std.proofs.lemmas.Bool.{cases_eq, cases_Bool, or_cases, or_parts, true≢false, ne_eqb}
-use Rattle.number_map.specs.Numbered.{Numbered, get}
+use Rattle.number_map.specs.Numbered.{NumberedValues, get}
 use Rattle.number_map.proofs.NumberedLemmas.{remove_here, remove_other}
 use Rattle.plain_tree.specs.Nodes.{Nodes}
 use Rattle.plain_tree.specs.NodesByNumber.{is_named_in, is_named}
-use Rattle.plain_tree.specs.Changes.{gone}
+use Rattle.plain_tree.specs.Changes.{without_node}
 use Rattle.mount_model.specs.declared.handle.Handle.{Handle}
 use Rattle.mount_model.specs.PlainMount.{HandleList}
 use Rattle.mount_model.specs.OpenHandles.{is_handle, node_of, has_handle, without_handle}
-use Rattle.mount_model.specs.CloseAnswers.{kept_by}
+use Rattle.mount_model.specs.CloseAnswers.{nodes_after_close}
 use Rattle.mount_model.specs.SoundHandles.{is_openable, is_same_handle, HasHandles}
 use Rattle.mount_model.proofs.HandlesWell.{openable_in}
 use Rattle.mount_model.proofs.OpenLemmas.{same_caller}
@@ -32,18 +32,18 @@ some_left keep p (h ∷ hs) is =
     last true rest = refl
     last false rest = rest
 
-all_left : (P : Handle → Type 0) (keep : Handle → Bool) (hs : HandleList) → AllByRecursion P hs → AllByRecursion P (filter keep hs)
-all_left P keep [] all = tt
-all_left P keep (h ∷ hs) all = elim (keep h) as (λ b. AllByRecursion P (cond b (h ∷ filter keep hs) (filter keep hs))) [
-  | true ↦ (all.0, all_left P keep hs all.1)
-  | false ↦ all_left P keep hs all.1
+all_remaining : (P : Handle → Type 0) (keep : Handle → Bool) (hs : HandleList) → AllByRecursion P hs → AllByRecursion P (filter keep hs)
+all_remaining P keep [] all = tt
+all_remaining P keep (h ∷ hs) all = elim (keep h) as (λ b. AllByRecursion P (cond b (h ∷ filter keep hs) (filter keep hs))) [
+  | true ↦ (all.0, all_remaining P keep hs all.1)
+  | false ↦ all_remaining P keep hs all.1
 ]
 
 left_distinct : (keep : Handle → Bool) (hs : HandleList) → IsDistinct is_same_handle hs → IsDistinct is_same_handle (filter keep hs)
 unfolding IsDistinct
 left_distinct keep [] distinct = tt
 left_distinct keep (h ∷ hs) distinct = elim (keep h) as (λ b. IsDistinct is_same_handle (cond b (h ∷ filter keep hs) (filter keep hs))) [
-  | true ↦ (all_left (λ y. is_same_handle h y ≡ false) keep hs distinct.0, left_distinct keep hs distinct.1)
+  | true ↦ (all_remaining (λ y. is_same_handle h y ≡ false) keep hs distinct.0, left_distinct keep hs distinct.1)
   | false ↦ left_distinct keep hs distinct.1
 ]
 
@@ -95,7 +95,7 @@ other_left caller number n q (h ∷ hs) distinct it differ held =
     last true rest = refl
     last false rest = rest
 
-module _ (nodes : Nodes) (handles : HandleList) (opened : Numbered ℕ) (well : HasHandles nodes handles opened) (caller number n : ℕ) (it : node_of handles caller number ≡ Some n) where
+module _ (nodes : Nodes) (handles : HandleList) (opened : NumberedValues ℕ) (well : HasHandles nodes handles opened) (caller number n : ℕ) (it : node_of handles caller number ≡ Some n) where
   abbrev left : HandleList
   left = without_handle caller number handles
 
@@ -132,24 +132,24 @@ module _ (nodes : Nodes) (handles : HandleList) (opened : Numbered ℕ) (well : 
         | inr differ ↦ stays_held q differ (well.nameless q there none)
       ])
 
-  goes : (is_named nodes n || has_handle left n) ≡ false → HasHandles (gone nodes n) left opened
+  goes : (is_named nodes n || has_handle left n) ≡ false → HasHandles (without_node nodes n) left opened
   unfolding openable_in
   goes none_left =
       let free : has_handle left n ≡ false = (or_parts (is_named nodes n) (has_handle left n) none_left).1 in
-      left_on (gone nodes n)
+      left_on (without_node nodes n)
       (λ q on.
       let differ : q ≢ n = λ same. true≢false (sym on ∙ ap (has_handle left) same ∙ free) in
       ap openable_in (remove_other nodes n q differ) ∙ well.on q (was_held q on))
       (λ q there none. elim (cases_eq q n) [
-        | inl is ↦ absurd (true≢false (sym there ∙ ap (λ y. is_some (get (gone nodes n) y)) is ∙ ap (λ o. is_some o) (remove_here nodes n)))
+        | inl is ↦ absurd (true≢false (sym there ∙ ap (λ y. is_some (get (without_node nodes n) y)) is ∙ ap (λ o. is_some o) (remove_here nodes n)))
         | inr differ ↦
-            let same : get (gone nodes n) q ≡ get nodes q = remove_other nodes n q differ in
+            let same : get (without_node nodes n) q ≡ get nodes q = remove_other nodes n q differ in
             stays_held q differ (well.nameless q (sym (ap (λ o. is_some o) same) ∙ there) (sym (ap is_named_in same) ∙ none))
       ])
 
-  pub closed_well : HasHandles (kept_by left nodes n) left opened
+  pub closed_well : HasHandles (nodes_after_close left nodes n) left opened
   closed_well = by_case (is_named nodes n || has_handle left n) refl
     where
-      by_case : (b : Bool) → (is_named nodes n || has_handle left n) ≡ b → HasHandles (cond b nodes (gone nodes n)) left opened
+      by_case : (b : Bool) → (is_named nodes n || has_handle left n) ≡ b → HasHandles (cond b nodes (without_node nodes n)) left opened
       by_case true held = stays held
       by_case false free = goes free

@@ -12,10 +12,10 @@ use Rattle.number_map.proofs.NumberedLemmas.{changed_here}
 use Rattle.plain_tree.specs.Nodes.{Name, Children, Node, Nodes, Body, Dir, File, Link, contents_of}
 use Rattle.plain_tree.specs.NodesByNumber.{is_named, is_dir_at}
 use Rattle.plain_tree.specs.BodyChanges.{with_children, with_contents}
-use Rattle.plain_tree.specs.Changes.{dropped, gone, on_contents, with_context, written}
+use Rattle.plain_tree.specs.Changes.{dropped, without_node, on_contents, with_context, written}
 use Rattle.plain_tree.specs.Facts.{EachNode}
 use Rattle.plain_tree.proofs.FactLemmas.{IsOfBodies, each_made, each_dropped, each_gone, each_moved, each_written, each_encrypted}
-use Rattle.mount_limits.specs.declared.TheConstants.{MOST_FILE_BYTES, MOST_READ_BYTES}
+use Rattle.mount_limits.specs.declared.TheConstants.{MAX_FILE_BYTES, MAX_READ_BYTES}
 use Rattle.mount_model.specs.declared.call.Op.{Op}
 use Rattle.mount_model.specs.declared.call.Op.TheVariants as op
 use Rattle.mount_model.specs.declared.handle.Handle.{Handle}
@@ -30,12 +30,12 @@ use Rattle.mount_model.specs.SpelledPolicy.{policy_in}
 use Rattle.mount_model.specs.NewNodes.{new_node, with_node}
 use Rattle.mount_model.specs.UnlinkAnswers.{without_name}
 use Rattle.mount_model.specs.CloseAnswers.{with_closed}
-use Rattle.mount_model.specs.Answered.{Answer, refused, told, done}
+use Rattle.mount_model.specs.AnswerForms.{Answer, refusal_with, unchanged_with, done}
 use Rattle.mount_model.specs.Answer.{answer_of, answer_to}
 use Rattle.mount_model.specs.FileAnswers.{at_handle, contents_at, content_of, lacks_blocks_for}
 use Rattle.mount_model.specs.ClaimHistory.{is_refused}
 use Rattle.mount_model.specs.Step.{IsMountStep}
-use Rattle.mount_model.specs.History.{History, MountEntry, IsLegal, IsLegalFrom, IsStepAt, is_want_of_memory, mount_from, mount_left, mount_after}
+use Rattle.mount_model.specs.History.{History, MountEntry, IsLegal, IsLegalFrom, IsStepAt, is_out_of_memory, mount_from, mount_after_entry, mount_after}
 use Rattle.mount_model.specs.Fits.{Fits}
 use Rattle.mount_model.specs.Lawful.{AllFit, KeysAgree}
 use Rattle.mount_model.specs.WellFormed.{IsWellFormed}
@@ -92,7 +92,7 @@ module _ (n : ℕ) (contents : List ℕ) (m : PlainMount) (keeps : Keeps n conte
   name_dropped d name x =
       let left = each_dropped (Has n contents) (of_bodies n contents) m.nodes keeps.1 d name x in (
         keeps.0,
-        cond_both (has_handle m.handles x) (dropped m.nodes d name x) (gone (dropped m.nodes d name x) x) (EachNode (Has n contents))
+        cond_both (has_handle m.handles x) (dropped m.nodes d name x) (without_node (dropped m.nodes d name x) x) (EachNode (Has n contents))
             (λ _. left)
             (λ _. each_gone (Has n contents) (dropped m.nodes d name x) left x),
       )
@@ -100,7 +100,7 @@ module _ (n : ℕ) (contents : List ℕ) (m : PlainMount) (keeps : Keeps n conte
   handle_closed : (caller handle x : ℕ) → Keeps n contents (with_closed m caller handle x)
   handle_closed caller handle x = (
     keeps.0,
-    cond_both (is_named m.nodes x || has_handle (without_handle caller handle m.handles) x) m.nodes (gone m.nodes x) (EachNode (Has n contents))
+    cond_both (is_named m.nodes x || has_handle (without_handle caller handle m.handles) x) m.nodes (without_node m.nodes x) (EachNode (Has n contents))
         (λ _. keeps.1)
         (λ _. each_gone (Has n contents) m.nodes keeps.1 x),
   )
@@ -140,20 +140,20 @@ module _ (n : ℕ) (contents : List ℕ) (m : PlainMount) (keeps : Keeps n conte
 
 -- ---- call after call
 
-refusal_left : (m : PlainMount) (e : MountEntry) → IsStepAt m e → is_refused e.reply ≡ true → mount_left m e ≡ m
+refusal_left : (m : PlainMount) (e : MountEntry) → IsStepAt m e → is_refused e.reply ≡ true → mount_after_entry m e ≡ m
 refusal_left m e step is = by e.reply refl is
   where
-    by : (r : Reply) → e.reply ≡ r → is_refused r ≡ true → mount_left m e ≡ m
-    by (reply.Refused refusal) told is = refused-step m e.who e.call refusal (mount_left m e) (subst (λ r. IsMountStep m e.who e.call r (mount_left m e)) told step)
-    by other told is = absurd (cc is)
+    by : (r : Reply) → e.reply ≡ r → is_refused r ≡ true → mount_after_entry m e ≡ m
+    by (reply.Refused refusal) unchanged_with is = refused-step m e.who e.call refusal (mount_after_entry m e) (subst (λ r. IsMountStep m e.who e.call r (mount_after_entry m e)) unchanged_with step)
+    by other unchanged_with is = absurd (cc is)
 
-entry_keeps : (n : ℕ) (contents : List ℕ) (m : PlainMount) (e : MountEntry) → Keeps n contents m → IsStepAt m e → writes_to m n e ≡ false → Keeps n contents (mount_left m e)
+entry_keeps : (n : ℕ) (contents : List ℕ) (m : PlainMount) (e : MountEntry) → Keeps n contents m → IsStepAt m e → writes_to m n e ≡ false → Keeps n contents (mount_after_entry m e)
 entry_keeps n contents m e keeps step quiet =
     elim (cases_Bool (is_refused e.reply)) [
       | inl refusal ↦ subst (Keeps n contents) (sym (refusal_left m e step refusal)) keeps
       | inr answered ↦
           let other : is_write_to m.handles n e.who e.call.op ≡ false = sym (ap (λ b. not b && is_write_to m.handles n e.who e.call.op) answered) ∙ quiet in
-          cond_both (is_want_of_memory e.reply) m (answer_of m e.who e.call).mount (Keeps n contents)
+          cond_both (is_out_of_memory e.reply) m (answer_of m e.who e.call).mount (Keeps n contents)
           (λ _. keeps)
           (λ _. call_keeps n contents m keeps e.who e.call.uid e.call.op other)
     ]
@@ -161,7 +161,7 @@ entry_keeps n contents m e keeps step quiet =
 history_keeps : (n : ℕ) (contents : List ℕ) (m : PlainMount) (h : History) → Keeps n contents m → IsLegalFrom m h → NobodyWrites n m h → Keeps n contents (mount_from m h)
 history_keeps n contents m [] keeps legal quiet = keeps
 history_keeps n contents m (e ∷ h) keeps legal quiet =
-    history_keeps n contents (mount_left m e) h (entry_keeps n contents m e keeps legal.0 quiet.0) legal.1 quiet.1
+    history_keeps n contents (mount_after_entry m e) h (entry_keeps n contents m e keeps legal.0 quiet.0) legal.1 quiet.1
 
 -- ---- the write, and the read
 
@@ -169,14 +169,14 @@ given : (r : Reply) → r ≡ Done → r ≢ Refused NoMemory
 given r done none = absurd (cc (sym done ∙ none))
 
 told_given : (r : Reply) (got : List ℕ) → r ≡ Content got → r ≢ Refused NoMemory
-told_given r got told none = absurd (cc (sym told ∙ none))
+told_given r got unchanged_with none = absurd (cc (sym unchanged_with ∙ none))
 
-left_by : (m : PlainMount) (e : MountEntry) → is_want_of_memory e.reply ≡ false → mount_left m e ≡ (answer_of m e.who e.call).mount
+left_by : (m : PlainMount) (e : MountEntry) → is_out_of_memory e.reply ≡ false → mount_after_entry m e ≡ (answer_of m e.who e.call).mount
 left_by m e none = ap (λ b. cond b m (answer_of m e.who e.call).mount) none
 
 -- an answer to a write that is done
 abbrev chosen : PlainMount → PlainMount → Bool → Bool → Bool → Answer
-chosen m after dir big full = cond dir (refused m IsDir) (cond big (refused m TooBig) (cond full (refused m NoSpace) (done after)))
+chosen m after dir big full = cond dir (refusal_with m IsDir) (cond big (refusal_with m TooBig) (cond full (refusal_with m NoSpace) (done after)))
 
 is_done : (m after : PlainMount) (dir big full : Bool) → (chosen m after dir big full).reply ≡ Done → (chosen m after dir big full).mount ≡ after
 is_done m after true big full is = absurd (cc is)
@@ -189,7 +189,7 @@ write_at m offset bytes x = record m { nodes = written m.nodes x (with_bytes off
 
 abbrev written_at : PlainMount → ℕ → List ℕ → ℕ → Answer
 written_at m offset bytes x =
-    chosen m (write_at m offset bytes x) (is_dir_at m.nodes x) (nat_lt MOST_FILE_BYTES (offset + length bytes)) (lacks_blocks_for m x offset bytes)
+    chosen m (write_at m offset bytes x) (is_dir_at m.nodes x) (nat_lt MAX_FILE_BYTES (offset + length bytes)) (lacks_blocks_for m x offset bytes)
 
 -- the contents of a node that is written
 wrote : (m : PlainMount) (n offset : ℕ) (bytes contents : List ℕ) (node : Node) → get m.nodes n ≡ Some node → node.body ≡ File contents
@@ -202,15 +202,15 @@ wrote m n offset bytes contents node there file q v found same =
 
 -- a write that is done leaves these contents
 write_leaves : (m : PlainMount) (e : MountEntry) (n offset : ℕ) (bytes contents : List ℕ) → n < m.next → IsStepAt m e → Writes m n offset bytes contents e
-    → Keeps n (with_bytes offset bytes contents) (mount_left m e)
+    → Keeps n (with_bytes offset bytes contents) (mount_after_entry m e)
 write_leaves m e n offset bytes contents low step w =
     let answer : answer_of m e.who e.call ≡ written_at m offset bytes n =
     ap (λ o. answer_to m e.who e.call.uid o) w.call ∙ ap (λ (o : Option ℕ). at_handle m o (written_at m offset bytes)) w.on in
     let replied : (written_at m offset bytes n).reply ≡ Done =
-    sym (ap (λ (a : Answer). a.reply) answer) ∙ sym (answered-step m e (mount_left m e) step (given e.reply w.done)) ∙ w.done in
-    let left : mount_left m e ≡ write_at m offset bytes n =
-    left_by m e (ap is_want_of_memory w.done) ∙ ap (λ (a : Answer). a.mount) answer
-    ∙ is_done m (write_at m offset bytes n) (is_dir_at m.nodes n) (nat_lt MOST_FILE_BYTES (offset + length bytes)) (lacks_blocks_for m n offset bytes) replied in
+    sym (ap (λ (a : Answer). a.reply) answer) ∙ sym (answered-step m e (mount_after_entry m e) step (given e.reply w.done)) ∙ w.done in
+    let left : mount_after_entry m e ≡ write_at m offset bytes n =
+    left_by m e (ap is_out_of_memory w.done) ∙ ap (λ (a : Answer). a.mount) answer
+    ∙ is_done m (write_at m offset bytes n) (is_dir_at m.nodes n) (nat_lt MAX_FILE_BYTES (offset + length bytes)) (lacks_blocks_for m n offset bytes) replied in
     subst (Keeps n (with_bytes offset bytes contents)) (sym left) (low, wrote m n offset bytes contents w.node w.there w.file)
 
 -- the caller's handle is one on the node
@@ -233,11 +233,11 @@ on_node (h ∷ hs) caller number n it = elim (cases_Bool (is_handle caller numbe
 read_told : (m : PlainMount) (e : MountEntry) (n start len : ℕ) (got : List ℕ) → IsStepAt m e → Reads m n start len got e
     → got ≡ bytes_from start len (contents_at m.nodes n)
 read_told m e n start len got step r =
-    by (is_dir_at m.nodes n) (nat_lt MOST_READ_BYTES len)
-    (sym (ap (λ o. (at_handle m o (λ x. cond (is_dir_at m.nodes x) (refused m IsDir) (cond (nat_lt MOST_READ_BYTES len) (refused m TooBig) (told m (content_of m x start len))))).reply) r.on)
+    by (is_dir_at m.nodes n) (nat_lt MAX_READ_BYTES len)
+    (sym (ap (λ o. (at_handle m o (λ x. cond (is_dir_at m.nodes x) (refusal_with m IsDir) (cond (nat_lt MAX_READ_BYTES len) (refusal_with m TooBig) (unchanged_with m (content_of m x start len))))).reply) r.on)
     ∙ sym (ap (λ o. (answer_to m e.who e.call.uid o).reply) r.call) ∙ sym (answered-step m e _ step (told_given e.reply got r.told)) ∙ r.told)
   where
-    by : (a b : Bool) → (cond a (refused m IsDir) (cond b (refused m TooBig) (told m (content_of m n start len)))).reply ≡ Content got
+    by : (a b : Bool) → (cond a (refusal_with m IsDir) (cond b (refusal_with m TooBig) (unchanged_with m (content_of m n start len)))).reply ≡ Content got
         → got ≡ bytes_from start len (contents_at m.nodes n)
     by true b is = absurd (cc is)
     by false true is = absurd (cc is)
@@ -254,15 +254,15 @@ fit_begun (e ∷ g) h fit = All-cons IsFit e g (All-head IsFit e (g ++ h) fit) (
 
 legal_begun : (m : PlainMount) (g h : History) → IsLegalFrom m (g ++ h) → IsLegalFrom m g
 legal_begun m [] h legal = tt
-legal_begun m (e ∷ g) h legal = (legal.0, legal_begun (mount_left m e) g h legal.1)
+legal_begun m (e ∷ g) h legal = (legal.0, legal_begun (mount_after_entry m e) g h legal.1)
 
 legal_rest : (m : PlainMount) (g h : History) → IsLegalFrom m (g ++ h) → IsLegalFrom (mount_from m g) h
 legal_rest m [] h legal = legal
-legal_rest m (e ∷ g) h legal = legal_rest (mount_left m e) g h legal.1
+legal_rest m (e ∷ g) h legal = legal_rest (mount_after_entry m e) g h legal.1
 
 left_after : (m : PlainMount) (g h : History) → mount_from m (g ++ h) ≡ mount_from (mount_from m g) h
 left_after m [] h = refl
-left_after m (e ∷ g) h = left_after (mount_left m e) g h
+left_after m (e ∷ g) h = left_after (mount_after_entry m e) g h
 
 there_open : (m : PlainMount) (n : ℕ) → IsWellFormed m → has_handle m.handles n ≡ true → is_some (get m.nodes n) ≡ true
 there_open m n well held = (and_parts (is_some (get m.nodes n)) (not (is_link_at m.nodes n)) (well.handles.on n held)).0
@@ -277,7 +277,7 @@ contents_are n contents m keeps there = by (get m.nodes n) refl there
 pub written_is_read : WrittenIsRead
 written_is_read before between write read n offset start len bytes contents got fit agree legal w quiet r =
     let m : PlainMount = mount_after before in
-    let left : PlainMount = mount_left m write in
+    let left : PlainMount = mount_after_entry m write in
     let begun : History = before ++ write ∷ between in
     let fits : AllFit begun = fit_begun begun (read ∷ []) fit in
     let agreed : KeysAgree begun = KeysAgree-begun begun (read ∷ []) agree in

@@ -16,7 +16,7 @@ use Rattle.plain_tree.specs.Changes.{first_nodes}
 use Rattle.plain_tree.specs.Facts.{EachNode}
 use Rattle.plain_tree.proofs.FactLemmas.{each_inserted}
 use Rattle.plain_tree.proofs.FirstLemmas.{first_children, first_tree, first_sealed}
-use Rattle.mount_limits.specs.declared.TheConstants.{MOST_BLOCKS}
+use Rattle.mount_limits.specs.declared.TheConstants.{MAX_BLOCKS}
 use Rattle.mount_model.specs.PlainMount.{empty_mount}
 use Rattle.mount_model.specs.OpenHandles.{opens_of}
 use Rattle.mount_model.specs.Sealed.{texts}
@@ -37,7 +37,7 @@ each_first P holds = each_inserted P none_yet (λ x v there. let none : None ≡
 abbrev blocks_in : Node → ℕ
 blocks_in v = block_count (contents_of v.body)
 
-first_blocks : block_total first_nodes ≤ MOST_BLOCKS
+first_blocks : block_total first_nodes ≤ MAX_BLOCKS
 unfolding block_total
 first_blocks =
     let one = total_added blocks_in none_yet 0 (record { named = true; context = None; body = Dir [] }) (get-empty nat_cmp 0) in

@@ -10,7 +10,7 @@ use Rattle.plain_tree.proofs.ReachedLemmas.{reached_named}
 use Rattle.mount_model.specs.declared.call.Op.{Op}
 use Rattle.mount_model.specs.declared.call.Op.TheVariants as op
 use Rattle.mount_model.specs.declared.reply.Reply.TheVariants.{Done}
-use Rattle.mount_model.specs.declared.limits.TheConstants.{MOST_HANDLES, MOST_OPENS}
+use Rattle.mount_model.specs.declared.limits.TheConstants.{MAX_HANDLES, MAX_OPENS}
 use Rattle.mount_model.specs.Carried.{IsPath}
 use Rattle.mount_model.specs.Fits.{OpFits}
 use Rattle.mount_model.specs.PlainMount.{PlainMount}
@@ -21,7 +21,7 @@ use Rattle.mount_model.specs.KeyAnswers.{status_of}
 use Rattle.mount_model.specs.SpelledPolicy.{policy_in}
 use Rattle.mount_model.specs.NewNodes.{new_node, with_node}
 use Rattle.mount_model.specs.OpenAnswers.{is_link_at, with_handle}
-use Rattle.mount_model.specs.Answered.{Answer}
+use Rattle.mount_model.specs.AnswerForms.{Answer}
 use Rattle.mount_model.specs.Answer.{answer_to}
 use Rattle.mount_model.specs.SoundHandles.{HasHandles}
 use Rattle.mount_model.proofs.CaseLemmas.{Covers, at_add_key, at_remove_key, at_remove_key_all, at_set_policy, at_get_policy}
@@ -59,13 +59,13 @@ module _ (m : PlainMount) (nodes : AreNodes m) (well : AreHandles m) where
   reached_there : (n : ℕ) → IsReached m.nodes n → is_some (get m.nodes n) ≡ true
   reached_there n at = there_named (get m.nodes n) (reached_named m.nodes nodes.tree.root nodes.tree.names at)
 
-  handle_opened : (caller : ℕ) (path : PathParts) (n : ℕ) → CanOpen m caller path n → AreHandles (with_handle m caller n)
-  handle_opened caller path n can =
-      let room = or_parts (nat_le MOST_HANDLES (length m.handles)) (nat_le MOST_OPENS (opens_of m.opened caller)) can.room in
+  opened_handle : (caller : ℕ) (path : PathParts) (n : ℕ) → CanOpen m caller path n → AreHandles (with_handle m caller n)
+  opened_handle caller path n can =
+      let room = or_parts (nat_le MAX_HANDLES (length m.handles)) (nat_le MAX_OPENS (opens_of m.opened caller)) can.room in
       opened_well m.nodes m.handles m.opened well caller n
       (λ k. reached_there n (walked_reached m path n can.led) k && not_from_false (is_link_at m.nodes n) can.no_link k)
-      (leb-false MOST_HANDLES (length m.handles) room.0)
-      (leb-false MOST_OPENS (opens_of m.opened caller) room.1)
+      (leb-false MAX_HANDLES (length m.handles) room.0)
+      (leb-false MAX_OPENS (opens_of m.opened caller) room.1)
 
 pub handles_step : (m : PlainMount) (caller uid : ℕ) (o : Op) → AreNodes m → AreHandles m → OpFits o → AreHandles (answer_to m caller uid o).mount
 handles_step m caller uid (op.AddKey raw) nodes well fits = at_add_key Kept m uid raw (covers m well).of_refusals (λ _ _. well)
@@ -89,7 +89,7 @@ handles_step m caller uid (op.Rename old_path new_path) nodes well fits =
     at_rename Kept m old_path new_path (covers m well) (λ d e to _. moved_open m.nodes m.handles m.opened well d e.0 to (last_part new_path) e.1)
 handles_step m caller uid (op.List path start) nodes well fits = at_list Kept m path start (covers m well)
 handles_step m caller uid (op.Stat path) nodes well fits = at_stat Kept m path (covers m well)
-handles_step m caller uid (op.OpenNode path) nodes well fits = at_open_node Kept m caller path (covers m well) (λ n can. handle_opened m nodes well caller path n can)
+handles_step m caller uid (op.OpenNode path) nodes well fits = at_open_node Kept m caller path (covers m well) (λ n can. opened_handle m nodes well caller path n can)
 handles_step m caller uid (op.Read handle offset len) nodes well fits = at_read Kept m caller handle offset len (covers m well)
 handles_step m caller uid (op.Write handle offset bytes) nodes well fits =
     at_write Kept m caller handle offset bytes (covers m well) (λ n _. written_open m.nodes m.handles m.opened well n (with_bytes offset bytes))

@@ -3,12 +3,12 @@
 use Rattle.std.proofs.Common.{◌≡◌, ◌≢◌, ℕ, Bool, true, false, cond, not, ◌&&◌, List, Option, is_some, inl, inr, refl, sym, ap, ◌∙◌}
 use Rattle.std.proofs.lemmas.Bool.{cases_eq, and_parts}
 use Rattle.policy_ctx.specs.declared.policy.Context.{Context}
-use Rattle.number_map.specs.Numbered.{Numbered, get}
+use Rattle.number_map.specs.Numbered.{NumberedValues, get}
 use Rattle.number_map.proofs.NumberedLemmas.{remove_here, remove_other}
 use Rattle.plain_tree.specs.Nodes.{Name, Node, Nodes}
 use Rattle.plain_tree.specs.BodyChanges.{with_child}
 use Rattle.plain_tree.specs.NodesByNumber.{is_named_in, is_named}
-use Rattle.plain_tree.specs.Changes.{on_contents, with_context, name_put, made, dropped, gone, moved, written, encrypted}
+use Rattle.plain_tree.specs.Changes.{on_contents, with_context, with_name, with_new_node, dropped, without_node, moved, written, with_node_context}
 use Rattle.plain_tree.specs.Tree.{IsTree}
 use Rattle.plain_tree.specs.Laws.{IsNew, CanBeMade}
 use Rattle.plain_tree.proofs.EditLemmas.{edit_named, edit_there}
@@ -27,7 +27,7 @@ openable_in o = is_some o && not (link_in o)
 
 -- ---- handles remain well formed after the nodes change
 
-module _ (nodes : Nodes) (handles : HandleList) (opened : Numbered ℕ) (well : HasHandles nodes handles opened) where
+module _ (nodes : Nodes) (handles : HandleList) (opened : NumberedValues ℕ) (well : HasHandles nodes handles opened) where
   -- requirements on the nodes after a change
   pub on_after : (after : Nodes) → ((n : ℕ) → has_handle handles n ≡ true → is_openable after n ≡ is_openable nodes n)
       → ((n : ℕ) → is_some (get after n) ≡ true → is_named after n ≡ false → has_handle handles n ≡ true) → HasHandles after handles opened
@@ -58,13 +58,13 @@ module _ (nodes : Nodes) (handles : HandleList) (opened : Numbered ℕ) (well : 
       same_after (written nodes x f) (edited_there nodes x (on_contents f) (leaves_contents f)) (link_written nodes x f)
       (edited_named nodes x (on_contents f) (leaves_contents f))
 
-  pub encrypted_open : (x : ℕ) (context : Context) → HasHandles (encrypted nodes x context) handles opened
+  pub encrypted_open : (x : ℕ) (context : Context) → HasHandles (with_node_context nodes x context) handles opened
   encrypted_open x context =
-      same_after (encrypted nodes x context) (edited_there nodes x (with_context context) (leaves_context context)) (link_encrypted nodes x context)
+      same_after (with_node_context nodes x context) (edited_there nodes x (with_context context) (leaves_context context)) (link_encrypted nodes x context)
       (edited_named nodes x (with_context context) (leaves_context context))
 
   module _ (next d : ℕ) (name : Name) (v : Node) (tree : IsTree nodes next) (can : CanBeMade nodes d name) (new : IsNew v) where
-    abbrev before_made : {A : Type 0} (read : Option Node → A) → ((q : ℕ) → read (get (name_put nodes d name next) q) ≡ read (get nodes q)) → (q : ℕ) → (q ≢ next) → read (get (made nodes d name next v) q) ≡ read (get nodes q)
+    abbrev before_made : {A : Type 0} (read : Option Node → A) → ((q : ℕ) → read (get (with_name nodes d name next) q) ≡ read (get nodes q)) → (q : ℕ) → (q ≢ next) → read (get (with_new_node nodes d name next v) q) ≡ read (get nodes q)
     before_made {A} read = made_before nodes next d name v tree can new read
 
     not_new : (n : ℕ) → has_handle handles n ≡ true → (n ≢ next)
@@ -73,18 +73,18 @@ module _ (nodes : Nodes) (handles : HandleList) (opened : Numbered ℕ) (well : 
         let none : is_some (get nodes n) ≡ false = ap (λ y. is_some (get nodes y)) same ∙ ap (λ o. is_some o) (next_free nodes next tree.room) in
         absurd (cc)
 
-    openable_put : (q : ℕ) → openable_in (get (name_put nodes d name next) q) ≡ openable_in (get nodes q)
+    openable_put : (q : ℕ) → openable_in (get (with_name nodes d name next) q) ≡ openable_in (get nodes q)
     unfolding openable_in
     openable_put q k = edit_there nodes d (with_child name next) q k && not (link_edited nodes d (with_child name next) q k)
 
-    pub made_open : HasHandles (made nodes d name next v) handles opened
+    pub made_open : HasHandles (with_new_node nodes d name next v) handles opened
     unfolding openable_in
-    made_open = on_after (made nodes d name next v)
+    made_open = on_after (with_new_node nodes d name next v)
         (λ n held. before_made openable_in openable_put n (not_new n held))
         (λ n there none.
         let differ : n ≢ next = λ same.
-        let named : is_named (made nodes d name next v) n ≡ true
-        = ap (is_named (made nodes d name next v)) same ∙ ap is_named_in (made_here nodes next d name v tree can new) ∙ new.named in
+        let named : is_named (with_new_node nodes d name next v) n ≡ true
+        = ap (is_named (with_new_node nodes d name next v)) same ∙ ap is_named_in (made_here nodes next d name v tree can new) ∙ new.named in
         absurd (cc) in
         well.nameless n
         (sym (before_made (λ o. is_some o) (edit_there nodes d (with_child name next)) n differ) ∙ there)
@@ -104,22 +104,22 @@ module _ (nodes : Nodes) (handles : HandleList) (opened : Numbered ℕ) (well : 
       | inr differ ↦ well.nameless n (sym (dropped_there nodes d name x n) ∙ there) (sym (dropped_others nodes d name x n differ) ∙ none)
     ])
 
-    pub dropped_gone_open : has_handle handles x ≡ false → HasHandles (gone unnamed x) handles opened
+    pub dropped_gone_open : has_handle handles x ≡ false → HasHandles (without_node unnamed x) handles opened
     unfolding openable_in
-    dropped_gone_open free = on_after (gone unnamed x)
+    dropped_gone_open free = on_after (without_node unnamed x)
         (λ n held.
         let differ : n ≢ x = λ same. let none : has_handle handles n ≡ false = ap (has_handle handles) same ∙ free in absurd (cc) in
         ap openable_in (remove_other unnamed x n differ) ∙ same_openable n)
         (λ n there none. elim (cases_eq n x) [
-          | inl is ↦ let lacks : is_some (get (gone unnamed x) n) ≡ false = ap (λ y. is_some (get (gone unnamed x) y)) is ∙ ap (λ o. is_some o) (remove_here unnamed x) in absurd (cc)
+          | inl is ↦ let lacks : is_some (get (without_node unnamed x) n) ≡ false = ap (λ y. is_some (get (without_node unnamed x) y)) is ∙ ap (λ o. is_some o) (remove_here unnamed x) in absurd (cc)
           | inr differ ↦
-              let same : get (gone unnamed x) n ≡ get unnamed n = remove_other unnamed x n differ in
+              let same : get (without_node unnamed x) n ≡ get unnamed n = remove_other unnamed x n differ in
               well.nameless n (sym (ap (λ o. is_some o) same ∙ dropped_there nodes d name x n) ∙ there) (sym (ap is_named_in same ∙ dropped_others nodes d name x n differ) ∙ none)
         ])
 
-    pub left_open : HasHandles (cond (has_handle handles x) unnamed (gone unnamed x)) handles opened
+    pub left_open : HasHandles (cond (has_handle handles x) unnamed (without_node unnamed x)) handles opened
     left_open = cond_case (has_handle handles x) refl
       where
-        cond_case : (b : Bool) → has_handle handles x ≡ b → HasHandles (cond b unnamed (gone unnamed x)) handles opened
+        cond_case : (b : Bool) → has_handle handles x ≡ b → HasHandles (cond b unnamed (without_node unnamed x)) handles opened
         cond_case true held = dropped_open held
         cond_case false free = dropped_gone_open free

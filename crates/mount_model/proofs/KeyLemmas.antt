@@ -14,7 +14,7 @@ use Rattle.user_claims.specs.Claims.{ClaimSet, no_claims, has_claim, with_claim,
 use Rattle.user_claims.specs.ClaimCounts.{count_of_user}
 use Rattle.user_claims.proofs.ClaimLemmas.{has_claim-none, has_claim-with_claim, has_claim-without_claim, has_claim-without_id, count_of_user-none, count_of_user-with_claim-le, count_of_user-without_claim-le, same_claim}
 use Rattle.user_claims.proofs.PresentLemmas.{count_of_user-without_id-le}
-use Rattle.user_claims.specs.declared.claims.TheConstants.{MOST_CLAIMS}
+use Rattle.user_claims.specs.declared.claims.TheConstants.{MAX_CLAIMS}
 use Rattle.mount_model.specs.PlainMount.{Raws, raw_in, with_raw}
 use Rattle.mount_model.specs.KeyAnswers.{is_raw_key}
 use Rattle.mount_model.specs.WellFormed.{HasKeys}
@@ -24,11 +24,11 @@ pub raw_in-with_raw : (raws : Raws) (id : KeyId) (raw : List ℕ) (q : KeyId) �
 raw_in-with_raw raws id raw q =
     get-insert nat_list_cmp_total raws id.0 raw q.0 ∙ ap (λ b. cond b (Some raw) (raw_in raws q)) (is_eq-slice_cmp q.0 id.0)
 
-room : (claims : ClaimSet) (id : KeyId) (uid : ℕ) → (not (has_claim claims id uid) && nat_le MOST_CLAIMS (count_of_user claims uid)) ≡ false → has_claim claims id uid ≡ false
-    → count_of_user claims uid + 1 ≤ MOST_CLAIMS
+room : (claims : ClaimSet) (id : KeyId) (uid : ℕ) → (not (has_claim claims id uid) && nat_le MAX_CLAIMS (count_of_user claims uid)) ≡ false → has_claim claims id uid ≡ false
+    → count_of_user claims uid + 1 ≤ MAX_CLAIMS
 room claims id uid within new = ⊎_elim
     (λ held. absurd (both_ways (not (has_claim claims id uid)) held (not_from_false (has_claim claims id uid) new)))
-    (λ few. let below : count_of_user claims uid < MOST_CLAIMS = leb-false MOST_CLAIMS (count_of_user claims uid) few in omega arith)
+    (λ few. let below : count_of_user claims uid < MAX_CLAIMS = leb-false MAX_CLAIMS (count_of_user claims uid) few in omega arith)
     (and_cases _ _ within)
 
 module _ (claims : ClaimSet) (raws : Raws) (uid : ℕ) (raw : List ℕ) (well : HasKeys claims raws) (key : is_raw_key raw ≡ true) where
@@ -54,9 +54,9 @@ module _ (claims : ClaimSet) (raws : Raws) (uid : ℕ) (raw : List ℕ) (well : 
       (λ apart. old q r (sym (cond-false (same_id q (key_id_of raw)) (Some raw) (raw_in raws q) apart) ∙ (sym there ∙ is)))
       (cases_Bool (same_id q (key_id_of raw)))
 
-  pub HasKeys-with_key : (not (has_claim claims (key_id_of raw) uid) && nat_le MOST_CLAIMS (count_of_user claims uid)) ≡ false → HasKeys (with_claim claims (key_id_of raw) uid) (with_raw raws (key_id_of raw) raw)
+  pub HasKeys-with_key : (not (has_claim claims (key_id_of raw) uid) && nat_le MAX_CLAIMS (count_of_user claims uid)) ≡ false → HasKeys (with_claim claims (key_id_of raw) uid) (with_raw raws (key_id_of raw) raw)
   HasKeys-with_key within = record {
-    quota = λ other. count_of_user-with_claim-le claims (key_id_of raw) uid other MOST_CLAIMS (room claims (key_id_of raw) uid within) (well.quota other);
+    quota = λ other. count_of_user-with_claim-le claims (key_id_of raw) uid other MAX_CLAIMS (room claims (key_id_of raw) uid within) (well.quota other);
     added = added_now;
     sizes = each_raw (λ q r. is_raw_key r ≡ true) key well.sizes;
     filed = each_raw (λ q r. key_id_of r ≡ q) refl well.filed;

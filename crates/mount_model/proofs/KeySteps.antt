@@ -6,7 +6,7 @@ use Rattle.mount_model.specs.declared.call.Op.TheVariants as op
 use Rattle.mount_model.specs.declared.reply.Reply.TheVariants.{Done}
 use Rattle.mount_model.specs.PlainMount.{PlainMount}
 use Rattle.mount_model.specs.KeyAnswers.{status_of}
-use Rattle.mount_model.specs.Answered.{Answer}
+use Rattle.mount_model.specs.AnswerForms.{Answer}
 use Rattle.mount_model.specs.Answer.{answer_to}
 use Rattle.mount_model.specs.WellFormed.{HasKeys}
 use Rattle.mount_model.proofs.CaseLemmas.{Covers, at_add_key, at_remove_key, at_remove_key_all, at_set_policy, at_get_policy}

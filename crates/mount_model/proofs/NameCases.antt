@@ -8,8 +8,8 @@ use Rattle.mount_model.specs.declared.reply.Refusal.{Refusal}
 use Rattle.mount_model.specs.declared.reply.Refusal.TheVariants.{NoKey, Inval, Exists, NotDir, IsDir, NotEmpty, XDev, NameTooLong, NoSpace, NoKeyClash}
 use Rattle.mount_model.specs.PlainMount.{PlainMount}
 use Rattle.mount_model.specs.States.{is_keyed}
-use Rattle.mount_model.specs.Answered.{Answer, refused, done, done_unless}
-use Rattle.mount_model.specs.Walk.{PathParts, found}
+use Rattle.mount_model.specs.AnswerForms.{Answer, refusal_with, done, done_unless}
+use Rattle.mount_model.specs.Walk.{PathParts, visible_entry}
 use Rattle.mount_model.specs.EntryPaths.{is_root, parent, last_part, is_at_or_above}
 use Rattle.mount_model.specs.NameAnswers.{is_full, is_long_target, answer_to_make_in, answer_to_make}
 use Rattle.mount_model.specs.NewNodes.{new_node, with_node}
@@ -47,7 +47,7 @@ at_make R m path nonce body covers ok =
 
 -- an entry that is removed: its node is no directory, or an empty one
 pub record CanGo (m : PlainMount) (d : ℕ) (part : Name) (e : Name × ℕ) : Type 0 where
-  pub entry_found : found m d part ≡ Some e
+  pub is_found : visible_entry m d part ≡ Some e
   pub empty : (is_dir_at m.nodes e.1 ≡ false) ⊎ (eqb (length (children m.nodes e.1)) 0 ≡ true)
 
 pub at_unlink : (R : Answer → Type 0) (m : PlainMount) (path : PathParts) → Covers R m
@@ -55,26 +55,26 @@ pub at_unlink : (R : Answer → Type 0) (m : PlainMount) (path : PathParts) → 
 at_unlink R m path covers ok =
     when R (λ _. covers.of_refusals IsDir refl) (λ (_ : is_root path ≡ false).
     at_walk R m _ (parent m path) covers (parent_due m path) (λ d _.
-    at_found R m _ (found m d (last_part path)) covers (λ e is.
+    at_found R m _ (visible_entry m d (last_part path)) covers (λ e is.
     when R (λ _. covers.of_refusals IsDir refl) (λ no_dir.
-    ok d e (record { entry_found = is; empty = inl no_dir })))))
+    ok d e (record { is_found = is; empty = inl no_dir })))))
 
 pub at_rmdir : (R : Answer → Type 0) (m : PlainMount) (path : PathParts) → Covers R m
     → ((d : ℕ) (e : Name × ℕ) → CanGo m d (last_part path) e → R (done (without_name m d e.0 e.1))) → R (answer_to_rmdir m path)
 at_rmdir R m path covers ok =
     when R (λ _. covers.of_refusals Inval refl) (λ (_ : is_root path ≡ false).
     at_walk R m _ (parent m path) covers (parent_due m path) (λ d _.
-    at_found R m _ (found m d (last_part path)) covers (λ e is.
+    at_found R m _ (visible_entry m d (last_part path)) covers (λ e is.
     when R (λ _. covers.of_refusals NotDir refl) (λ (_ : not (is_dir_at m.nodes e.1) ≡ false).
     when R (λ _. covers.of_refusals NotEmpty refl) (λ empty.
-    ok d e (record { entry_found = is; empty = inr (is_so _ empty) }))))))
+    ok d e (record { is_found = is; empty = inr (is_so _ empty) }))))))
 
 -- ---- Rename
 
 -- a name that moves to another, in another directory or in the same one
 pub record CanMove (m : PlainMount) (d : ℕ) (part : Name) (e : Name × ℕ) (path : PathParts) (to : ℕ) : Type 0 where
   pub named : is_root path ≡ false
-  pub entry_found : found m d part ≡ Some e
+  pub is_found : visible_entry m d part ≡ Some e
   pub led : parent m path ≡ Ok to
   pub keyed : is_keyed m to ≡ true
   pub free : is_some (entry m.nodes to (last_part path)) ≡ false
@@ -85,7 +85,7 @@ pub record CanMove (m : PlainMount) (d : ℕ) (part : Name) (e : Name × ℕ) (p
 
 -- a name moves, or one of the causes against it is the refusal
 at_refusal : (R : Answer → Type 0) (m after : PlainMount) (b : Bool) (r : Refusal) (more : Option Refusal)
-    → R (refused m r) → (b ≡ false → R (done_unless m more after)) → R (done_unless m (cond b (Some r) more) after)
+    → R (refusal_with m r) → (b ≡ false → R (done_unless m more after)) → R (done_unless m (cond b (Some r) more) after)
 at_refusal R m after b r more stopped rest =
     cond_both b (Some r) more (λ o. R (done_unless m o after)) (λ _. stopped) rest
 
@@ -95,7 +95,7 @@ at_rename R m old_path new_path covers ok =
     when R (λ _. covers.of_refusals Inval refl) (λ roots.
     at_walk R m _ (parent m old_path) covers (parent_due m old_path) (λ d _.
     when R (λ _. covers.of_refusals NoKey refl) (λ (_ : not (is_keyed m d) ≡ false).
-    at_found R m (answer_to_move_from m new_path d) (found m d (last_part old_path)) covers (λ e is.
+    at_found R m (answer_to_move_from m new_path d) (visible_entry m d (last_part old_path)) covers (λ e is.
     at_walk R m _ (parent m new_path) covers (parent_due m new_path) (λ to led.
     let after = with_moved m d e.0 to (last_part new_path) e.1 in
     at_refusal R m after _ NoKey _ (covers.of_refusals NoKey refl) (λ keyed.
@@ -106,7 +106,7 @@ at_rename R m old_path new_path covers ok =
     at_refusal R m after _ NoSpace None (covers.of_refusals NoSpace refl) (λ room.
     ok d e to (record {
       named = (or_parts (is_root old_path) (is_root new_path) roots).1;
-      entry_found = is;
+      is_found = is;
       led = led;
       keyed = is_so _ keyed;
       free = free;

@@ -5,12 +5,12 @@ use Rattle.fsc_keys.specs.Keys.{key_id_of}
 use Rattle.byte_words.specs.Contents.{with_bytes}
 use Rattle.plain_tree.specs.Nodes.{Name, Body, Dir, File, Link}
 use Rattle.plain_tree.specs.NodesByNumber.{children, is_named}
-use Rattle.plain_tree.specs.Changes.{dropped, gone, written}
+use Rattle.plain_tree.specs.Changes.{dropped, without_node, written}
 use Rattle.plain_tree.proofs.DroppedLemmas.{dropped_nameless}
 use Rattle.mount_model.specs.declared.call.Op.{Op}
 use Rattle.mount_model.specs.declared.call.Op.TheVariants as op
 use Rattle.mount_model.specs.declared.reply.Reply.TheVariants.{Done}
-use Rattle.mount_limits.specs.declared.TheConstants.{MOST_BLOCKS}
+use Rattle.mount_limits.specs.declared.TheConstants.{MAX_BLOCKS}
 use Rattle.mount_model.specs.Carried.{IsPath}
 use Rattle.mount_model.specs.Fits.{OpFits}
 use Rattle.mount_model.specs.PlainMount.{PlainMount, with_raw}
@@ -25,7 +25,7 @@ use Rattle.mount_model.specs.RenameAnswer.{with_moved}
 use Rattle.mount_model.specs.FileAnswers.{contents_at}
 use Rattle.mount_model.specs.Blocks.{block_count, block_total}
 use Rattle.mount_model.specs.CloseAnswers.{with_closed}
-use Rattle.mount_model.specs.Answered.{Answer}
+use Rattle.mount_model.specs.AnswerForms.{Answer}
 use Rattle.mount_model.specs.Answer.{answer_to}
 use Rattle.mount_model.specs.WellFormed.{HasKeys}
 use Rattle.mount_model.specs.SoundNodes.{HasNodes}
@@ -34,7 +34,7 @@ use Rattle.mount_model.proofs.NameCases.{CanMake, CanGo, CanMove, at_make, at_un
 use Rattle.mount_model.proofs.FileCases.{CanWrite, at_read_link, at_list, at_stat, at_open_node, at_read, at_write, at_close, at_meta_load, at_meta_store}
 use Rattle.mount_model.proofs.NodesWell.{made_well, dropped_well, gone_well, moved_well, written_well, encrypted_well}
 use Rattle.mount_model.proofs.TreeCalls.{IsFresh, comes, leads, childless_end, moves, moves_into, moved_name, empty_of}
-use Rattle.mount_model.proofs.CallParts.{fresh_dir, fresh_file, fresh_link, raw_encrypted, body_written}
+use Rattle.mount_model.proofs.CallParts.{fresh_dir, fresh_file, fresh_link, raw_encrypted, body_after_write}
 
 abbrev pub AreNodes : PlainMount → Type 0
 AreNodes m = HasNodes m.raws m.nodes m.next
@@ -53,8 +53,8 @@ module _ (m : PlainMount) (well : AreNodes m) where
 
   pub name_dropped : (d : ℕ) (part : Name) (e : Name × ℕ) → CanGo m d part e → AreNodes (without_name m d e.0 e.1)
   name_dropped d part e can =
-      let left = dropped_well m.raws m.nodes m.next well d e.0 e.1 (leads m well d part e can.entry_found) (childless_end m well d part e can) in
-      cond_both (has_handle m.handles e.1) (dropped m.nodes d e.0 e.1) (gone (dropped m.nodes d e.0 e.1) e.1) (λ nodes. HasNodes m.raws nodes m.next)
+      let left = dropped_well m.raws m.nodes m.next well d e.0 e.1 (leads m well d part e can.is_found) (childless_end m well d part e can) in
+      cond_both (has_handle m.handles e.1) (dropped m.nodes d e.0 e.1) (without_node (dropped m.nodes d e.0 e.1) e.1) (λ nodes. HasNodes m.raws nodes m.next)
       (λ _. left)
       (λ _. gone_well m.raws (dropped m.nodes d e.0 e.1) m.next left e.1 (dropped_nameless m.nodes d e.0 e.1))
 
@@ -74,13 +74,13 @@ module _ (m : PlainMount) (well : AreNodes m) where
       → HasNodes m.raws (written m.nodes n (with_bytes offset bytes)) m.next
   bytes_written caller handle offset bytes n can fits =
       written_well m.raws m.nodes m.next well n (with_bytes offset bytes)
-      (λ v _. body_written offset bytes fits.0 can.small v.body)
-      (ltb-false (MOST_BLOCKS - block_total m.nodes)
+      (λ v _. body_after_write offset bytes fits.0 can.small v.body)
+      (ltb-false (MAX_BLOCKS - block_total m.nodes)
       (block_count (with_bytes offset bytes (contents_at m.nodes n)) - block_count (contents_at m.nodes n)) can.room)
 
   pub handle_closed : (caller handle n : ℕ) → AreNodes (with_closed m caller handle n)
   handle_closed caller handle n =
-      cond_both (is_named m.nodes n || has_handle (without_handle caller handle m.handles) n) m.nodes (gone m.nodes n) (λ nodes. HasNodes m.raws nodes m.next)
+      cond_both (is_named m.nodes n || has_handle (without_handle caller handle m.handles) n) m.nodes (without_node m.nodes n) (λ nodes. HasNodes m.raws nodes m.next)
       (λ _. well)
       (λ free. gone_well m.raws m.nodes m.next well n (or_parts (is_named m.nodes n) (has_handle (without_handle caller handle m.handles) n) free).0)
 

@@ -6,7 +6,7 @@ use Rattle.number_map.specs.Numbered.{get}
 use Rattle.plain_tree.specs.Nodes.{Name, Children, Body, Dir, File, Link, Node, Nodes, contents_of}
 use Rattle.plain_tree.specs.BodyChanges.{with_children, with_contents}
 use Rattle.plain_tree.specs.NodesByNumber.{children, context_at, is_named, entry}
-use Rattle.plain_tree.specs.Changes.{made, dropped, gone, moved, written, encrypted}
+use Rattle.plain_tree.specs.Changes.{with_new_node, dropped, without_node, moved, written, with_node_context}
 use Rattle.plain_tree.specs.Laws.{IsNew, CanBeMade, CanBeMoved}
 use Rattle.plain_tree.specs.FittingNodes.{FitsInto, MovesInto}
 use Rattle.plain_tree.proofs.MadeLemmas.{made_tree, next_free}
@@ -18,7 +18,7 @@ use Rattle.plain_tree.proofs.SealedLemmas.{made_sealed, dropped_sealed, gone_sea
 use Rattle.plain_tree.proofs.SealLemmas.{written_sealed, encrypted_sealed}
 use Rattle.plain_tree.proofs.FactLemmas.{IsOfBodies, each_made, each_dropped, each_gone, each_moved, each_written, each_encrypted, names_made, names_dropped, names_gone, names_moved, names_written, names_encrypted}
 use Rattle.mount_model.specs.declared.limits.TheConstants.{LAST_NODE}
-use Rattle.mount_limits.specs.declared.TheConstants.{MOST_BLOCKS}
+use Rattle.mount_limits.specs.declared.TheConstants.{MAX_BLOCKS}
 use Rattle.mount_model.specs.PlainMount.{Raws}
 use Rattle.mount_model.specs.Sealed.{texts}
 use Rattle.mount_model.specs.FileAnswers.{contents_at}
@@ -54,7 +54,7 @@ module _ (raws : Raws) (nodes : Nodes) (next : ℕ) (well : HasNodes raws nodes 
     pub keyed : HasRaw raws v.context
     pub room : next < LAST_NODE
 
-  pub made_well : (d : ℕ) (name : Name) (v : Node) → IsComing d name v → HasNodes raws (made nodes d name next v) (next + 1)
+  pub made_well : (d : ℕ) (name : Name) (v : Node) → IsComing d name v → HasNodes raws (with_new_node nodes d name next v) (next + 1)
   made_well d name v is = record {
     tree = made_tree nodes next d name v well.tree is.can is.new;
     sealed = made_sealed (texts raws) nodes next well.tree well.sealed d name v is.can is.new is.fits;
@@ -81,7 +81,7 @@ module _ (raws : Raws) (nodes : Nodes) (next : ℕ) (well : HasNodes raws nodes 
   }
 
   -- a node without name that is removed
-  pub gone_well : (x : ℕ) → is_named nodes x ≡ false → HasNodes raws (gone nodes x) next
+  pub gone_well : (x : ℕ) → is_named nodes x ≡ false → HasNodes raws (without_node nodes x) next
   gone_well x nameless = record {
     tree = gone_tree nodes next x well.tree nameless;
     sealed = gone_sealed (texts raws) nodes next well.tree well.sealed x nameless;
@@ -105,7 +105,7 @@ module _ (raws : Raws) (nodes : Nodes) (next : ℕ) (well : HasNodes raws nodes 
   }
 
   pub written_well : (x : ℕ) (f : List ℕ → List ℕ) → ((v : Node) → get nodes x ≡ Some v → IsBody v.body → IsBody (with_contents f v.body))
-      → block_count (f (contents_at nodes x)) - block_count (contents_at nodes x) ≤ MOST_BLOCKS - block_total nodes → HasNodes raws (written nodes x f) next
+      → block_count (f (contents_at nodes x)) - block_count (contents_at nodes x) ≤ MAX_BLOCKS - block_total nodes → HasNodes raws (written nodes x f) next
   written_well x f keeps room = record {
     tree = written_tree nodes next x f well.tree;
     sealed = written_sealed (texts raws) nodes x f well.sealed;
@@ -118,7 +118,7 @@ module _ (raws : Raws) (nodes : Nodes) (next : ℕ) (well : HasNodes raws nodes 
 
   -- an empty directory gets its policy
   pub encrypted_well : (x : ℕ) (context : Context) → (x ≢ 0) → context_at nodes x ≡ None → children nodes x ≡ [] → HasRaw raws (Some context)
-      → HasNodes raws (encrypted nodes x context) next
+      → HasNodes raws (with_node_context nodes x context) next
   encrypted_well x context differ plain none is = record {
     tree = encrypted_tree nodes next x context well.tree differ;
     sealed = encrypted_sealed (texts raws) nodes x context plain none well.sealed;

@@ -6,11 +6,11 @@ use Rattle.std.specs.Cmp.{IsEquivalence}
 use Rattle.std.proofs.lemmas.Bool.{cases_eq, cases_Bool, and_parts, or_cases, true≢false, eqb-true, eq-eqb, ne_eqb}
 use Rattle.std.proofs.lemmas.List.Folds.{list_any-append}
 use Rattle.std.proofs.lemmas.Map.Keys.{IsDistinct-push}
-use Rattle.number_map.specs.Numbered.{Numbered, insert}
+use Rattle.number_map.specs.Numbered.{NumberedValues, insert}
 use Rattle.number_map.proofs.NumberedLemmas.{insert_here, insert_other}
 use Rattle.plain_tree.specs.Nodes.{Nodes}
 use Rattle.mount_model.specs.declared.handle.Handle.{Handle}
-use Rattle.mount_model.specs.declared.limits.TheConstants.{MOST_HANDLES, MOST_OPENS}
+use Rattle.mount_model.specs.declared.limits.TheConstants.{MAX_HANDLES, MAX_OPENS}
 use Rattle.mount_model.specs.PlainMount.{HandleList}
 use Rattle.mount_model.specs.OpenHandles.{is_handle, opens_of}
 use Rattle.mount_model.specs.SoundHandles.{is_openable, is_live, is_same_handle, HasHandles}
@@ -42,7 +42,7 @@ same_handle_equiv = record {
 
 -- ---- opened
 
-module _ (nodes : Nodes) (handles : HandleList) (opened : Numbered ℕ) (well : HasHandles nodes handles opened) (caller n : ℕ) where
+module _ (nodes : Nodes) (handles : HandleList) (opened : NumberedValues ℕ) (well : HasHandles nodes handles opened) (caller n : ℕ) where
   abbrev count : ℕ
   count = opens_of opened caller
 
@@ -52,7 +52,7 @@ module _ (nodes : Nodes) (handles : HandleList) (opened : Numbered ℕ) (well : 
   abbrev more : HandleList
   more = handles ++ new ∷ []
 
-  abbrev counted : Numbered ℕ
+  abbrev counted : NumberedValues ℕ
   counted = insert opened caller (count + 1)
 
   caller_counted : opens_of counted caller ≡ count + 1
@@ -84,7 +84,7 @@ module _ (nodes : Nodes) (handles : HandleList) (opened : Numbered ℕ) (well : 
     | inr none ↦ none
   ]
 
-  pub opened_well : is_openable nodes n ≡ true → length handles < MOST_HANDLES → count < MOST_OPENS → HasHandles nodes more counted
+  pub opened_well : is_openable nodes n ≡ true → length handles < MAX_HANDLES → count < MAX_OPENS → HasHandles nodes more counted
   opened_well openable room below = record {
     on = λ q held. elim (of_more (λ h. eqb h.node q) held) [
       | inl old ↦ well.on q old
@@ -100,7 +100,7 @@ module _ (nodes : Nodes) (handles : HandleList) (opened : Numbered ℕ) (well : 
     distinct = IsDistinct-push same_handle_equiv handles new well.distinct unused;
     few = grown_length handles;
     few_opens = λ c. elim (cases_eq c caller) [
-      | inl is ↦ subst (λ y. opens_of counted y ≤ MOST_OPENS) (sym is) (omega (arith, caller_counted))
+      | inl is ↦ subst (λ y. opens_of counted y ≤ MAX_OPENS) (sym is) (omega (arith, caller_counted))
       | inr differ ↦ let few = well.few_opens c in omega (arith, other_counted c differ)
     ];
   }
@@ -109,5 +109,5 @@ module _ (nodes : Nodes) (handles : HandleList) (opened : Numbered ℕ) (well : 
       push_length [] = refl
       push_length (h ∷ hs) = ap (λ k. suc k) (push_length hs) ∙ omega arith
 
-      grown_length : (hs : HandleList) → length (handles ++ new ∷ []) ≤ MOST_HANDLES
+      grown_length : (hs : HandleList) → length (handles ++ new ∷ []) ≤ MAX_HANDLES
       grown_length hs = omega (arith, push_length handles)

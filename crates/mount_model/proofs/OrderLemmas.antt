@@ -9,14 +9,14 @@ use Rattle.mount_model.specs.declared.reply.Refusal.TheVariants.{NoKey, Inval, E
 use Rattle.mount_model.specs.PlainMount.{PlainMount}
 use Rattle.mount_model.specs.States.{is_keyed_under}
 use Rattle.mount_model.specs.EntryPaths.{is_root, last_part, parent}
-use Rattle.mount_model.specs.Answered.{Answer, refused, at_node}
+use Rattle.mount_model.specs.AnswerForms.{Answer, refusal_with, at_node}
 use Rattle.mount_model.specs.PolicyAnswers.{answer_to_encrypt, answer_to_set_at}
 use Rattle.mount_model.specs.SpelledPolicy.{policy_in}
 use Rattle.mount_model.specs.NameAnswers.{answer_to_make_in}
 use Rattle.mount_model.specs.EncryptedNames.{lacks_key}
-use Rattle.mount_model.specs.OrderLaws.{HandlesKeepNodesKeyed, CreationsNeedTheKey, OnlyEmptyOnesAreEncrypted}
+use Rattle.mount_model.specs.OrderLaws.{HandlesHoldNodeKeys, CreationsNeedTheKey, OnlyEmptyOnesAreEncrypted}
 
-pub handles_keep_keyed : HandlesKeepNodesKeyed
+pub handles_keep_keyed : HandlesHoldNodeKeys
 handles_keep_keyed m n held = by (context_at m.nodes n)
   where
     or_true : (b : Bool) → (b || true) ≡ true
@@ -33,9 +33,9 @@ yes_first b x y is = cond-true b x y is
 
 pub creations_need_keys : CreationsNeedTheKey
 creations_need_keys m path nonce body d named led lacks =
-    cond-false (is_root path) (refused m Exists) (at_node m (parent m path) (answer_to_make_in m (last_part path) nonce body)) named
+    cond-false (is_root path) (refusal_with m Exists) (at_node m (parent m path) (answer_to_make_in m (last_part path) nonce body)) named
     ∙ (ap (λ w. at_node m w (answer_to_make_in m (last_part path) nonce body)) led
-    ∙ yes_first (lacks_key m (context_at m.nodes d)) (refused m NoKey) _ lacks)
+    ∙ yes_first (lacks_key m (context_at m.nodes d)) (refusal_with m NoKey) _ lacks)
 
 some_entries : {A : Type 0} (xs : List A) → (xs ≢ []) → eqb (length xs) 0 ≡ false
 some_entries [] some = absurd (some refl)
@@ -46,16 +46,16 @@ some_entries (x ∷ xs) some = cases (eqb (length (x ∷ xs)) 0) refl
     cases false is = refl
 
 encrypting : (m : PlainMount) (uid d : ℕ) (new : Context) (o : Option Context) → o ≡ None → (children m.nodes d ≢ [])
-    → answer_to_encrypt m uid d new o ≡ refused m NotEmpty
-encrypting m uid d new None is some = yes_first (not (eqb (length (children m.nodes d)) 0)) (refused m NotEmpty) _ (ap not (some_entries (children m.nodes d) some))
+    → answer_to_encrypt m uid d new o ≡ refusal_with m NotEmpty
+encrypting m uid d new None is some = yes_first (not (eqb (length (children m.nodes d)) 0)) (refusal_with m NotEmpty) _ (ap not (some_entries (children m.nodes d) some))
 encrypting m uid d new (Some c) is some = absurd (cc)
 
 pub only_empty_ones : OnlyEmptyOnesAreEncrypted
 only_empty_ones m uid path policy nonce d led dir not_root spelled plain some =
     ap (λ w. at_node m w (answer_to_set_at m uid policy nonce)) led
-    ∙ (cond-false (not (is_dir_at m.nodes d)) (refused m NotDir) _ (ap not dir)
-    ∙ (cond-false (eqb d 0) (refused m Inval) _ (no_root (eqb d 0) refl)
-    ∙ (cond-false (is_some (policy_fault policy)) (refused m Inval) _ spelled
+    ∙ (cond-false (not (is_dir_at m.nodes d)) (refusal_with m NotDir) _ (ap not dir)
+    ∙ (cond-false (eqb d 0) (refusal_with m Inval) _ (no_root (eqb d 0) refl)
+    ∙ (cond-false (is_some (policy_fault policy)) (refusal_with m Inval) _ spelled
     ∙ encrypting m uid d (record { policy = policy_in policy; nonce = nonce }) (context_at m.nodes d) plain some)))
   where
     no_root : (b : Bool) → eqb d 0 ≡ b → b ≡ false

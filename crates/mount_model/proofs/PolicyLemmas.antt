@@ -8,18 +8,18 @@ use Rattle.policy_ctx.specs.declared.policy.Unit.TheVariants.{Block, U512, U1024
 use Rattle.policy_ctx.specs.Settings.{unit_of_log2}
 use Rattle.policy_ctx.specs.Policy.{flags_of, unit_log2}
 use Rattle.std.specs.Option.{unwrap_or}
-use Rattle.mount_model.specs.SpelledPolicy.{pad_told}
+use Rattle.mount_model.specs.SpelledPolicy.{pad_of_bytes}
 use Rattle.mount_model.specs.PolicyLaws.{PoliciesAreReadBack}
 
-pad_told-flags_of : (pad : Pad) (by_mode : Bool) → pad_told (flags_of pad by_mode) ≡ pad
-pad_told-flags_of P4 false = refl
-pad_told-flags_of P8 false = refl
-pad_told-flags_of P16 false = refl
-pad_told-flags_of P32 false = refl
-pad_told-flags_of P4 true = refl
-pad_told-flags_of P8 true = refl
-pad_told-flags_of P16 true = refl
-pad_told-flags_of P32 true = refl
+pad_of_bytes-flags_of : (pad : Pad) (by_mode : Bool) → pad_of_bytes (flags_of pad by_mode) ≡ pad
+pad_of_bytes-flags_of P4 false = refl
+pad_of_bytes-flags_of P8 false = refl
+pad_of_bytes-flags_of P16 false = refl
+pad_of_bytes-flags_of P32 false = refl
+pad_of_bytes-flags_of P4 true = refl
+pad_of_bytes-flags_of P8 true = refl
+pad_of_bytes-flags_of P16 true = refl
+pad_of_bytes-flags_of P32 true = refl
 
 by_mode-flags_of : (pad : Pad) (by_mode : Bool) → not (bit_and (flags_of pad by_mode) 8 == 0) ≡ by_mode
 by_mode-flags_of P4 false = refl
@@ -40,7 +40,7 @@ unit-unit_log2 U4096 = refl
 
 pub read_back : PoliciesAreReadBack
 read_back p sized = let whole : take 16 p.id.0 ≡ p.id.0 = take_all 16 p.id.0 (omega (arith, sized)) in λ i. record {
-  pad = pad_told-flags_of p.pad p.by_mode i;
+  pad = pad_of_bytes-flags_of p.pad p.by_mode i;
   unit = unit-unit_log2 p.unit i;
   by_mode = by_mode-flags_of p.pad p.by_mode i;
   id = record { 0 = whole i };

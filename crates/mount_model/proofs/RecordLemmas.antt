@@ -12,7 +12,7 @@ use Rattle.std.proofs.lemmas.Map.Made.{is_some-lookup}
 use Rattle.plain_tree.proofs.ChildLemmas.{same_name, itself}
 use Rattle.meta_files.specs.Records.{RecordList, record_of, version_of, with_record}
 use Rattle.meta_files.proofs.RecordLemmas.{record_of-with_record, record_of-with_record_other}
-use Rattle.meta_files.specs.declared.files.TheConstants.{MOST_RECORDS, MOST_RECORD_BYTES, LAST_VERSION}
+use Rattle.meta_files.specs.declared.files.TheConstants.{MAX_RECORDS, MAX_RECORD_BYTES, LAST_VERSION}
 use Rattle.mount_model.specs.PlainMount.{PlainMount}
 use Rattle.mount_model.specs.RecordAnswers.{is_out_of_records}
 use Rattle.mount_model.specs.WellFormed.{IsRecord, HasRecords}
@@ -50,7 +50,7 @@ module _ (name : List ℕ) (version : ℕ) (bytes : List ℕ) where
       (IsDistinct-push nat_list_eq_equiv (keys_of rs) name distinct (any_flip (keys_of rs) ∙ (sym (is_some-lookup (λ k. bytes_eq k name) rs) ∙ new))))
       (cases_Bool (is_some (record_of rs name)))
 
-  count_after : (rs : RecordList) → (is_some (record_of rs name) ≡ false → length rs < MOST_RECORDS) → length rs ≤ MOST_RECORDS → length (with_record rs name version bytes) ≤ MOST_RECORDS
+  count_after : (rs : RecordList) → (is_some (record_of rs name) ≡ false → length rs < MAX_RECORDS) → length rs ≤ MAX_RECORDS → length (with_record rs name version bytes) ≤ MAX_RECORDS
   count_after rs room few = ⊎_elim
       (λ there. let same : length (keys_of (with_record rs name version bytes)) ≡ length (keys_of rs) = ap length (keys_there rs there) in
       omega (arith, keys_length rs, keys_length (with_record rs name version bytes)))
@@ -72,18 +72,18 @@ version_below : (o : Option (ℕ × List ℕ)) → ((kept : ℕ × List ℕ) →
 version_below None each = omega arith
 version_below (Some kept) each = (each kept refl).last
 
-pub HasRecords-stored : (m : PlainMount) (name bytes : List ℕ) → HasRecords m.records → nat_lt MOST_RECORD_BYTES (length bytes) ≡ false → is_out_of_records m name ≡ false
+pub HasRecords-stored : (m : PlainMount) (name bytes : List ℕ) → HasRecords m.records → nat_lt MAX_RECORD_BYTES (length bytes) ≡ false → is_out_of_records m name ≡ false
     → HasRecords (with_record m.records name (version_of m.records name + 1) bytes)
 HasRecords-stored m name bytes well small within =
     let parts = or_parts _ _ within in
     let differs : version_of m.records name ≢ LAST_VERSION = λ is. true≢false (sym (eq-eqb (version_of m.records name) LAST_VERSION is) ∙ parts.1) in
     let below : version_of m.records name ≤ LAST_VERSION = version_below (record_of m.records name) (well.each name) in
-    let fits : length bytes ≤ MOST_RECORD_BYTES = ltb-false MOST_RECORD_BYTES (length bytes) small in
+    let fits : length bytes ≤ MAX_RECORD_BYTES = ltb-false MAX_RECORD_BYTES (length bytes) small in
     record {
       few = count_after name (version_of m.records name + 1) bytes m.records
           (λ new. ⊎_elim
           (λ some. absurd (none_some (record_of m.records name) some new))
-          (λ few. leb-false MOST_RECORDS (length m.records) few)
+          (λ few. leb-false MAX_RECORDS (length m.records) few)
           (and_cases _ _ parts.0))
           well.few;
       distinct = distinct_after name (version_of m.records name + 1) bytes m.records well.distinct;

@@ -11,9 +11,9 @@ use Rattle.mount_model.specs.declared.reply.Reply.{Reply}
 use Rattle.mount_model.specs.declared.reply.Reply.TheVariants.{Status}
 use Rattle.mount_model.specs.PlainMount.{HandleList}
 use Rattle.mount_model.specs.OpenHandles.{has_handle}
-use Rattle.mount_model.specs.Answered.{Answer}
+use Rattle.mount_model.specs.AnswerForms.{Answer}
 use Rattle.mount_model.specs.States.{is_busy, names_key}
-use Rattle.mount_model.specs.KeyLaws.{OtherClaimsStay, OpenHandlesKeepKeys, OpenHandlesAreTold}
+use Rattle.mount_model.specs.KeyLaws.{OtherClaimsStay, OpenHandlesKeepKeys, OpenHandlesAreReported}
 use Rattle.mount_model.proofs.CaseLemmas.{at_remove_key}
 
 pub others_stay : OtherClaimsStay
@@ -52,6 +52,6 @@ abbrev state_in : Reply → KeyState
 state_in (Status state by_self users) = state
 state_in other = Absent
 
-pub handles_told : OpenHandlesAreTold
+pub handles_told : OpenHandlesAreReported
 handles_told m n id held names uid state by_self users told = λ absent.
     not_absent (is_present m.claims id) (is_busy m id) (some_handle m.handles n (λ x. names_key m.nodes x id) held names) (ap state_in told ∙ absent)

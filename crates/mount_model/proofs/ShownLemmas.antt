@@ -11,8 +11,8 @@ use Rattle.plain_tree.proofs.FoundLemmas.{found_passes, found_entry}
 use Rattle.plain_tree.proofs.SealLemmas.{text_leads}
 use Rattle.mount_model.specs.PlainMount.{PlainMount}
 use Rattle.mount_model.specs.Sealed.{texts}
-use Rattle.mount_model.specs.States.{is_keyed, shown, shown_under}
-use Rattle.mount_model.specs.Walk.{found}
+use Rattle.mount_model.specs.States.{is_keyed, shown, visible_name_under}
+use Rattle.mount_model.specs.Walk.{visible_entry}
 use Rattle.mount_model.specs.WellFormed.{IsWellFormed}
 use Rattle.mount_model.specs.NameLaws.{PoliciesAreInherited, TextsDiffer}
 
@@ -25,7 +25,7 @@ apart m d a b x y c well has one two same = well.nodes.sealed.apart d a b x y c 
 -- ---- of one directory two names are not shown alike
 
 shown_apart : (m : PlainMount) (d : ℕ) (a b : Name) (x y : ℕ) → IsWellFormed m → entry m.nodes d a ≡ Some x → entry m.nodes d b ≡ Some y
-    → (o : Option Context) → context_at m.nodes d ≡ o → shown_under m d a o ≡ shown_under m d b o → a ≡ b
+    → (o : Option Context) → context_at m.nodes d ≡ o → visible_name_under m d a o ≡ visible_name_under m d b o → a ≡ b
 shown_apart m d a b x y well one two None has same = same
 shown_apart m d a b x y well one two (Some c) has same = elim (cases_Bool (is_keyed m d)) [
   | inl keyed ↦ sym (plain a keyed) ∙ same ∙ plain b keyed
@@ -57,14 +57,14 @@ module _ (m : PlainMount) (d : ℕ) where
   shows : Name → Name → Bool
   shows part name = bytes_eq part (shown m d name)
 
-  pub only_shown : (part : Name) (e : Name × ℕ) → found m d part ≡ Some e → (entry m.nodes d e.0 ≡ Some e.1) × (shown m d e.0 ≡ part)
+  pub only_shown : (part : Name) (e : Name × ℕ) → visible_entry m d part ≡ Some e → (entry m.nodes d e.0 ≡ Some e.1) × (shown m d e.0 ≡ part)
   unfolding shows
   only_shown part e is = (
     found_entry m.nodes d (shows part) e is,
     sym (same_name part (shown m d e.0) (found_passes (shows part) (children m.nodes d) e is)),
   )
 
-  pub shown_leads : (name : Name) (x : ℕ) → IsWellFormed m → entry m.nodes d name ≡ Some x → found m d (shown m d name) ≡ Some (name, x)
+  pub shown_leads : (name : Name) (x : ℕ) → IsWellFormed m → entry m.nodes d name ≡ Some x → visible_entry m d (shown m d name) ≡ Some (name, x)
   unfolding shows
   shown_leads name x well led =
       let value : lookup (shows (shown m d name)) (children m.nodes d) ≡ Some x
@@ -72,7 +72,7 @@ module _ (m : PlainMount) (d : ℕ) where
       (λ a there same.
       let y = some_of (entry m.nodes d a) there in
       shown_apart m d name a x y.0 well led y.1 (context_at m.nodes d) refl same) in
-      let e = some_of (found m d (shown m d name)) (found_too (shows (shown m d name)) (children m.nodes d) x value) in
+      let e = some_of (visible_entry m d (shown m d name)) (found_too (shows (shown m d name)) (children m.nodes d) x value) in
       let both = only_shown (shown m d name) e.0 e.1 in
       let same : e.0.0 ≡ name = shown_apart m d e.0.0 name e.0.1 x well both.0 led (context_at m.nodes d) refl both.1 in
       let node : e.0.1 ≡ x = same_some e.0.1 x (sym both.0 ∙ ap (entry m.nodes d) same ∙ led) in

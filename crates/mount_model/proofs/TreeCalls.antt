@@ -11,7 +11,7 @@ use Rattle.plain_tree.specs.Nodes.{Name, Body, Dir, File, Link, Node, Nodes, chi
 use Rattle.plain_tree.specs.NodesByNumber.{children_in, is_dir_in, context_in, children, context_at, entry}
 use Rattle.plain_tree.specs.Laws.{CanBeMoved}
 use Rattle.plain_tree.specs.FittingNodes.{MovesInto}
-use Rattle.mount_limits.specs.declared.TheConstants.{MOST_NODES, MOST_CHILDREN}
+use Rattle.mount_limits.specs.declared.TheConstants.{MAX_NODES, MAX_CHILDREN}
 use Rattle.plain_tree.proofs.ChildLemmas.{same_name}
 use Rattle.plain_tree.proofs.FoundLemmas.{found_entry}
 use Rattle.mount_model.specs.declared.limits.TheConstants.{LAST_NODE}
@@ -19,9 +19,9 @@ use Rattle.mount_model.specs.Carried.{IsPath}
 use Rattle.mount_model.specs.PlainMount.{PlainMount, Raws}
 use Rattle.mount_model.specs.Sealed.{texts}
 use Rattle.mount_model.specs.States.{shown}
-use Rattle.mount_model.specs.Walk.{PathParts, found}
+use Rattle.mount_model.specs.Walk.{PathParts, visible_entry}
 use Rattle.mount_model.specs.EntryPaths.{is_root, last_part}
-use Rattle.mount_model.specs.NewNodes.{inherited, new_node}
+use Rattle.mount_model.specs.NewNodes.{inherited_context, new_node}
 use Rattle.mount_model.specs.EncryptedNames.{has_text_of}
 use Rattle.mount_model.specs.MoveRefusal.{has_policy, may_hold}
 use Rattle.mount_model.specs.SoundNodes.{IsName, IsBody, HasRaw, HasNodes}
@@ -63,7 +63,7 @@ pub record IsFresh (body : Body) : Type 0 where
   pub contents : contents_of body ≡ []
   pub small : IsBody body
 
-raw_inherited : (raws : Raws) (nonce : List ℕ) (o : Option Context) → HasRaw raws o → HasRaw raws (inherited nonce o)
+raw_inherited : (raws : Raws) (nonce : List ℕ) (o : Option Context) → HasRaw raws o → HasRaw raws (inherited_context nonce o)
 raw_inherited raws nonce None has = tt
 raw_inherited raws nonce (Some c) has = has
 
@@ -79,20 +79,20 @@ module _ (m : PlainMount) (well : HasNodes m.raws m.nodes m.next) where
       → IsComing m.raws m.nodes m.next well d (last_part path) (new_node m d nonce body)
   comes path nonce body d can fits fresh =
       let at = parent_ok m path d can.led in
-      let full = or_parts (nat_le MOST_CHILDREN (length (children m.nodes d))) (nat_le MOST_NODES (len m.nodes) || eqb m.next LAST_NODE) can.room in
-      let all = or_parts (nat_le MOST_NODES (len m.nodes)) (eqb m.next LAST_NODE) full.1 in
+      let full = or_parts (nat_le MAX_CHILDREN (length (children m.nodes d))) (nat_le MAX_NODES (len m.nodes) || eqb m.next LAST_NODE) can.room in
+      let all = or_parts (nat_le MAX_NODES (len m.nodes)) (eqb m.next LAST_NODE) full.1 in
       record {
         can = record {
           reached = at.reached;
           dir = at.dir;
           free = none_of (entry m.nodes d (last_part path)) can.free;
-          few_nodes = leb-false MOST_NODES (len m.nodes) all.0;
-          few_children = leb-false MOST_CHILDREN (length (children m.nodes d)) full.0;
+          few_nodes = leb-false MAX_NODES (len m.nodes) all.0;
+          few_children = leb-false MAX_CHILDREN (length (children m.nodes d)) full.0;
         };
         new = record { named = refl; empty = fresh.children };
         empty = fresh.contents;
         fits = record {
-          inherits = λ c has. ap (λ o. option_map (λ (k : Context). k.policy) (inherited nonce o)) has;
+          inherits = λ c has. ap (λ o. option_map (λ (k : Context). k.policy) (inherited_context nonce o)) has;
           apart = λ c has. sym (ap (has_text_of m d (last_part path)) has) ∙ can.apart;
         };
         spelled = is_name m path d fits can.named at;
@@ -112,7 +112,7 @@ module _ (m : PlainMount) (well : HasNodes m.raws m.nodes m.next) where
       of_body (File contents) is = refl
       of_body (Link target) is = refl
 
-  pub leads : (d : ℕ) (part : Name) (e : Name × ℕ) → found m d part ≡ Some e → entry m.nodes d e.0 ≡ Some e.1
+  pub leads : (d : ℕ) (part : Name) (e : Name × ℕ) → visible_entry m d part ≡ Some e → entry m.nodes d e.0 ≡ Some e.1
   leads d part e is = found_entry m.nodes d (λ name. bytes_eq part (shown m d name)) e is
 
   pub childless_end : (d : ℕ) (part : Name) (e : Name × ℕ) → CanGo m d part e → children m.nodes e.1 ≡ []
@@ -132,14 +132,14 @@ module _ (m : PlainMount) (well : HasNodes m.raws m.nodes m.next) where
   moves d part e path to can =
       let at = parent_ok m path to can.led in
       record {
-        led = leads d part e can.entry_found;
+        led = leads d part e can.is_found;
         reached = reached_without m e.1 path to can.led can.outside;
         dir = at.dir;
         free = none_of (entry m.nodes to (last_part path)) can.free;
         few_children = λ differ.
-            let other : nat_le MOST_CHILDREN (length (children m.nodes to)) ≡ false
-            = ap (λ b. not b && nat_le MOST_CHILDREN (length (children m.nodes to))) (sym (ne_eqb to d differ)) ∙ can.room in
-            leb-false MOST_CHILDREN (length (children m.nodes to)) other;
+            let other : nat_le MAX_CHILDREN (length (children m.nodes to)) ≡ false
+            = ap (λ b. not b && nat_le MAX_CHILDREN (length (children m.nodes to))) (sym (ne_eqb to d differ)) ∙ can.room in
+            leb-false MAX_CHILDREN (length (children m.nodes to)) other;
       }
 
   pub moves_into : (d : ℕ) (part : Name) (e : Name × ℕ) (path : PathParts) (to : ℕ) → CanMove m d part e path to → MovesInto (texts m.raws) m.nodes to (last_part path) e.1

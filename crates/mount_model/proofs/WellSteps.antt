@@ -17,13 +17,13 @@ use Rattle.mount_model.specs.declared.reply.Reply.{Reply}
 use Rattle.mount_model.specs.declared.reply.Reply.TheVariants.{Done}
 use Rattle.mount_model.specs.PlainMount.{PlainMount, Raws, raw_in, with_raw, empty_mount}
 use Rattle.mount_model.specs.KeyAnswers.{status_of}
-use Rattle.mount_model.specs.Answered.{Answer}
+use Rattle.mount_model.specs.AnswerForms.{Answer}
 use Rattle.mount_model.specs.Answer.{answer_to}
 use Rattle.mount_model.specs.Fits.{OpFits, Fits}
 use Rattle.mount_model.specs.Step.{IsMountStep}
-use Rattle.mount_model.specs.History.{MountEntry, History, mount_left, IsStepAt, mount_from, mount_after, IsLegalFrom, IsLegal}
+use Rattle.mount_model.specs.History.{MountEntry, History, mount_after_entry, IsStepAt, mount_from, mount_after, IsLegalFrom, IsLegal}
 use Rattle.mount_model.specs.ClaimHistory.{is_refused}
-use Rattle.mount_model.specs.Lawful.{raw_of, raws_added, KeysAgree, KeyAgrees, AllFit}
+use Rattle.mount_model.specs.Lawful.{raw_of, added_raw_keys, KeysAgree, KeyAgrees, AllFit}
 use Rattle.mount_model.specs.WellFormed.{HasKeys, IsWellFormed}
 use Rattle.mount_model.proofs.CaseLemmas.{Covers, at_add_key, at_remove_key, at_remove_key_all, at_set_policy, at_get_policy}
 use Rattle.mount_model.proofs.NameCases.{at_make, at_unlink, at_rmdir, at_rename}
@@ -104,15 +104,15 @@ module _ (among : List (List ℕ)) where
   raws_step m caller uid (op.MetaLoad name) are given = at_meta_load Kept m name (covers m are)
   raws_step m caller uid (op.MetaStore name expected bytes) are given = at_meta_store Kept m name expected bytes (covers m are) (λ _ _. are)
 
-  pub entry_raws : (m : PlainMount) (e : MountEntry) → AreAmong m.raws → (is_refused e.reply ≡ false → IsAmong e.call.op) → IsStepAt m e → AreAmong (mount_left m e).raws
+  pub entry_raws : (m : PlainMount) (e : MountEntry) → AreAmong m.raws → (is_refused e.reply ≡ false → IsAmong e.call.op) → IsStepAt m e → AreAmong (mount_after_entry m e).raws
   entry_raws m e are given step = ⊎_elim
       (λ a. subst (λ (x : PlainMount). AreAmong x.raws) (sym a.1) (raws_step m e.who e.call.uid e.call.op are (λ told. given (ap is_refused a.0 ∙ told))))
       (λ w. subst (λ (x : PlainMount). AreAmong x.raws) (sym w.2) are)
       step
 
   -- the raw key that an entry added
-  pub entry_among : (e : MountEntry) (h : History) → ((r : List ℕ) → Contains (raws_added (e ∷ h)) r → Contains among r) → is_refused e.reply ≡ false → IsAmong e.call.op
-  entry_among e h all told = by e.call.op (λ r has. all r (Contains-append_left (cond (is_refused e.reply) [] (raw_of e.call.op)) (raws_added h) r
+  pub entry_among : (e : MountEntry) (h : History) → ((r : List ℕ) → Contains (added_raw_keys (e ∷ h)) r → Contains among r) → is_refused e.reply ≡ false → IsAmong e.call.op
+  entry_among e h all told = by e.call.op (λ r has. all r (Contains-append_left (cond (is_refused e.reply) [] (raw_of e.call.op)) (added_raw_keys h) r
       (subst (λ (l : List (List ℕ)). Contains l r) (sym (cond-false (is_refused e.reply) [] (raw_of e.call.op) told)) has)))
     where
       by : (o : Op) → ((r : List ℕ) → Contains (raw_of o) r → Contains among r) → IsAmong o
@@ -124,19 +124,19 @@ module _ (among : List (List ℕ)) where
     key_agrees m keys are (op.AddKey raw) here = λ old is. agree old raw (are (key_id_of raw) old is) here (keys.filed (key_id_of raw) old is)
     key_agrees m keys are other here = tt
 
-    history_well : (m : PlainMount) (h : History) → ((r : List ℕ) → Contains (raws_added h) r → Contains among r) → AreAmong m.raws → AllFit h → IsLegalFrom m h → IsWellFormed m → IsWellFormed (mount_from m h)
+    history_well : (m : PlainMount) (h : History) → ((r : List ℕ) → Contains (added_raw_keys h) r → Contains among r) → AreAmong m.raws → AllFit h → IsLegalFrom m h → IsWellFormed m → IsWellFormed (mount_from m h)
     history_well m [] all are fit legal well = well
     history_well m (e ∷ h) all are fit legal well =
         let mine : is_refused e.reply ≡ false → IsAmong e.call.op = entry_among e h all in
-        history_well (mount_left m e) h
-        (λ r has. all r (Contains-append_right (cond (is_refused e.reply) [] (raw_of e.call.op)) (raws_added h) r has))
+        history_well (mount_after_entry m e) h
+        (λ r has. all r (Contains-append_right (cond (is_refused e.reply) [] (raw_of e.call.op)) (added_raw_keys h) r has))
         (entry_raws m e are mine legal.0)
         (All-tail (λ (x : MountEntry). Fits x.call) e h fit)
         legal.1
-        (step_well m e.who e.call e.reply (mount_left m e) well (All-head (λ (x : MountEntry). Fits x.call) e h fit) (λ told. key_agrees m well.keys are e.call.op (mine told)) legal.0)
+        (step_well m e.who e.call e.reply (mount_after_entry m e) well (All-head (λ (x : MountEntry). Fits x.call) e h fit) (λ told. key_agrees m well.keys are e.call.op (mine told)) legal.0)
 
 pub none_added : (among : List (List ℕ)) (id : KeyId) (raw : List ℕ) → raw_in empty_mount.raws id ≡ Some raw → Contains among raw
 none_added among id raw is = let none : None ≡ Some raw = sym (get-empty (slice_cmp nat_cmp) id.0) ∙ is in absurd (cc)
 
 pub mount_well : (h : History) → AllFit h → KeysAgree h → IsLegal h → IsWellFormed (mount_after h)
-mount_well h fit agree legal = history_well (raws_added h) agree empty_mount h (λ r has. has) (none_added (raws_added h)) fit legal empty_well
+mount_well h fit agree legal = history_well (added_raw_keys h) agree empty_mount h (λ r has. has) (none_added (added_raw_keys h)) fit legal empty_well

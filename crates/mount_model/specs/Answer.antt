@@ -6,10 +6,10 @@ use Rattle.mount_model.specs.declared.call.Op.{Op}
 use Rattle.mount_model.specs.declared.call.Op.TheVariants as op
 use Rattle.plain_tree.specs.Nodes.{Dir, File, Link}
 use Rattle.mount_model.specs.PlainMount.{PlainMount}
-use Rattle.mount_model.specs.Answered.{done}
+use Rattle.mount_model.specs.AnswerForms.{done}
 use Rattle.mount_model.specs.LookAnswers.{answer_to_read_link, answer_to_stat}
 use Rattle.mount_model.specs.ListAnswers.{answer_to_list}
-pub use Rattle.mount_model.specs.Answered.{Answer, refused}
+pub use Rattle.mount_model.specs.AnswerForms.{Answer, refusal_with}
 pub use Rattle.mount_model.specs.KeyAnswers.{with_key, answer_to_add_key}
 pub use Rattle.mount_model.specs.RemovalAnswers.{answer_to_remove_key}
 pub use Rattle.mount_model.specs.KeyAnswers.{answer_to_key_status}

@@ -4,7 +4,7 @@ use Rattle.std.specs.List.{sum_by}
 use Rattle.std.specs.Int.{div_ceil}
 use Rattle.number_map.specs.Numbered.{entries}
 use Rattle.plain_tree.specs.Nodes.{Nodes, contents_of}
-use Rattle.mount_limits.specs.declared.TheConstants.{BLOCK_SIZE, MOST_BLOCKS}
+use Rattle.mount_limits.specs.declared.TheConstants.{BLOCK_SIZE, MAX_BLOCKS}
 use Rattle.mount_model.specs.PlainMount.{PlainMount}
 
 -- the number of blocks of contents; the last one may be partly filled
@@ -17,4 +17,4 @@ block_total nodes = sum_by (λ e. block_count (contents_of e.1.body)) (entries n
 
 -- the contents would need more blocks than are free beside those that they have
 abbrev pub lacks_blocks : PlainMount → List ℕ → List ℕ → Bool
-lacks_blocks m old new = nat_lt (MOST_BLOCKS - block_total m.nodes) (block_count new - block_count old)
+lacks_blocks m old new = nat_lt (MAX_BLOCKS - block_total m.nodes) (block_count new - block_count old)

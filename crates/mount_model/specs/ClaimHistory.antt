@@ -13,18 +13,18 @@ is_refused (Refused refusal) = true
 is_refused other = false
 
 -- a user's operation makes a claim, removes one, removes all on a key, or changes no claims
-abbrev pub claims_made : ClaimSet → ℕ → Op → ClaimSet
-claims_made claims uid (AddKey raw) = with_claim claims (key_id_of raw) uid
-claims_made claims uid (RemoveKey id) = without_claim claims id uid
-claims_made claims uid (RemoveKeyAll id) = without_id claims id
-claims_made claims uid other = claims
+abbrev pub claims_after_op : ClaimSet → ℕ → Op → ClaimSet
+claims_after_op claims uid (AddKey raw) = with_claim claims (key_id_of raw) uid
+claims_after_op claims uid (RemoveKey id) = without_claim claims id uid
+claims_after_op claims uid (RemoveKeyAll id) = without_id claims id
+claims_after_op claims uid other = claims
 
-abbrev pub claims_left : ClaimSet → MountEntry → ClaimSet
-claims_left claims e = if is_refused e.reply then claims else claims_made claims e.call.uid e.call.op
+abbrev pub claims_after_entry : ClaimSet → MountEntry → ClaimSet
+claims_after_entry claims e = if is_refused e.reply then claims else claims_after_op claims e.call.uid e.call.op
 
 abbrev pub claims_from : ClaimSet → History → ClaimSet
 claims_from claims [] = claims
-claims_from claims (e ∷ es) = claims_from (claims_left claims e) es
+claims_from claims (e ∷ es) = claims_from (claims_after_entry claims e) es
 
 -- the claims that a history leaves
 abbrev pub claims_after : History → ClaimSet

@@ -9,7 +9,7 @@ use Rattle.mount_model.specs.declared.reply.Reply.TheVariants.{Done, Content}
 use Rattle.mount_model.specs.PlainMount.{PlainMount, HandleList}
 use Rattle.mount_model.specs.OpenHandles.{node_of}
 use Rattle.mount_model.specs.ClaimHistory.{is_refused}
-use Rattle.mount_model.specs.History.{MountEntry, History, IsLegal, mount_left, mount_after}
+use Rattle.mount_model.specs.History.{MountEntry, History, IsLegal, mount_after_entry, mount_after}
 use Rattle.mount_model.specs.Lawful.{AllFit, KeysAgree}
 
 abbrev pub is_node : ℕ → Option ℕ → Bool
@@ -28,7 +28,7 @@ writes_to m n e = not (is_refused e.reply) && is_write_to m.handles n e.who e.ca
 -- no entry of a history that begins at the mount writes to node n
 abbrev pub NobodyWrites : ℕ → PlainMount → History → Type 0
 NobodyWrites n m [] = ⊤
-NobodyWrites n m (e ∷ es) = (writes_to m n e ≡ false) × NobodyWrites n (mount_left m e) es
+NobodyWrites n m (e ∷ es) = (writes_to m n e ≡ false) × NobodyWrites n (mount_after_entry m e) es
 
 -- an entry that writes bytes to node n, a file, from an offset on: which contents it had before
 pub record Writes (m : PlainMount) (n offset : ℕ) (bytes contents : List ℕ) (e : MountEntry) : Type 0 where

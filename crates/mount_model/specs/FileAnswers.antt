@@ -7,25 +7,25 @@ use Rattle.number_map.specs.Numbered.{get}
 use Rattle.plain_tree.specs.Nodes.{Nodes, contents_of}
 use Rattle.plain_tree.specs.NodesByNumber.{is_dir_at}
 use Rattle.plain_tree.specs.Changes.{written}
-use Rattle.mount_limits.specs.declared.TheConstants.{MOST_FILE_BYTES, MOST_READ_BYTES}
+use Rattle.mount_limits.specs.declared.TheConstants.{MAX_FILE_BYTES, MAX_READ_BYTES}
 use Rattle.mount_model.specs.declared.reply.Reply.{Reply}
 use Rattle.mount_model.specs.declared.reply.Reply.TheVariants.{Content}
 use Rattle.mount_model.specs.declared.reply.Refusal.TheVariants.{IsDir, BadHandle, TooBig, NoSpace}
 use Rattle.mount_model.specs.PlainMount.{PlainMount}
 use Rattle.mount_model.specs.OpenHandles.{node_of}
-use Rattle.mount_model.specs.Answered.{Answer, refused, told, done}
+use Rattle.mount_model.specs.AnswerForms.{Answer, refusal_with, unchanged_with, done}
 use Rattle.mount_model.specs.Blocks.{lacks_blocks}
 
 -- what is answered at the node of the handle; BadHandle if the caller has none of that number
 abbrev pub at_handle : PlainMount → Option ℕ → (ℕ → Answer) → Answer
-at_handle m None f = refused m BadHandle
+at_handle m None f = refusal_with m BadHandle
 at_handle m (Some n) f = f n
 
 -- the same if the node has to be a file
 abbrev pub at_file : PlainMount → ℕ → ℕ → (ℕ → Answer) → Answer
 at_file m caller handle f =
     at_handle m (node_of m.handles caller handle) λ n.
-    if is_dir_at m.nodes n then refused m IsDir else
+    if is_dir_at m.nodes n then refusal_with m IsDir else
     f n
 
 -- the contents of the file; empty if there is none
@@ -39,8 +39,8 @@ content_of m n offset len = Content (bytes_from offset len (contents_at m.nodes 
 abbrev pub answer_to_read : PlainMount → ℕ → ℕ → ℕ → ℕ → Answer
 answer_to_read m caller handle offset len =
     at_file m caller handle λ n.
-    if nat_lt MOST_READ_BYTES len then refused m TooBig else
-    told m (content_of m n offset len)
+    if nat_lt MAX_READ_BYTES len then refusal_with m TooBig else
+    unchanged_with m (content_of m n offset len)
 
 -- the contents of file n, once the bytes are written, would need more blocks than are free beside those that
 -- they have
@@ -52,6 +52,6 @@ lacks_blocks_for m n offset bytes =
 abbrev pub answer_to_write : PlainMount → ℕ → ℕ → ℕ → List ℕ → Answer
 answer_to_write m caller handle offset bytes =
     at_file m caller handle λ n.
-    if nat_lt MOST_FILE_BYTES (offset + length bytes) then refused m TooBig else
-    if lacks_blocks_for m n offset bytes then refused m NoSpace else
+    if nat_lt MAX_FILE_BYTES (offset + length bytes) then refusal_with m TooBig else
+    if lacks_blocks_for m n offset bytes then refusal_with m NoSpace else
     done (record m { nodes = written m.nodes n (with_bytes offset bytes) })

@@ -17,21 +17,21 @@ MountEntry = Entry Call Reply
 abbrev pub History : Type 0
 History = entries.History Call Reply
 
-abbrev pub is_want_of_memory : Reply → Bool
-is_want_of_memory (Refused NoMemory) = true
-is_want_of_memory other = false
+abbrev pub is_out_of_memory : Reply → Bool
+is_out_of_memory (Refused NoMemory) = true
+is_out_of_memory other = false
 
 -- the mount that an entry leaves: the answer's, or the same one if the call was out of memory
-abbrev pub mount_left : PlainMount → MountEntry → PlainMount
-mount_left m e = if is_want_of_memory e.reply then m else (answer_of m e.who e.call).mount
+abbrev pub mount_after_entry : PlainMount → MountEntry → PlainMount
+mount_after_entry m e = if is_out_of_memory e.reply then m else (answer_of m e.who e.call).mount
 
 -- the entry is a step at the mount
 abbrev pub IsStepAt : PlainMount → MountEntry → Type 0
-IsStepAt m e = IsMountStep m e.who e.call e.reply (mount_left m e)
+IsStepAt m e = IsMountStep m e.who e.call e.reply (mount_after_entry m e)
 
 abbrev pub mount_from : PlainMount → History → PlainMount
 mount_from m [] = m
-mount_from m (e ∷ es) = mount_from (mount_left m e) es
+mount_from m (e ∷ es) = mount_from (mount_after_entry m e) es
 
 -- the mount that a history leaves
 abbrev pub mount_after : History → PlainMount
@@ -40,7 +40,7 @@ mount_after history = mount_from empty_mount history
 -- each entry is a step at the mount that the earlier entries leave
 abbrev pub IsLegalFrom : PlainMount → History → Type 0
 IsLegalFrom m [] = ⊤
-IsLegalFrom m (e ∷ es) = IsStepAt m e × IsLegalFrom (mount_left m e) es
+IsLegalFrom m (e ∷ es) = IsStepAt m e × IsLegalFrom (mount_after_entry m e) es
 
 abbrev pub IsLegal : History → Type 0
 IsLegal history = IsLegalFrom empty_mount history
@@ -50,5 +50,5 @@ abbrev pub calls_of : History → List (ℕ × Call)
 calls_of history = map (λ e. (e.who, e.call)) history
 
 -- no reply is out of memory
-abbrev pub NeverWantsMemory : History → Type 0
-NeverWantsMemory history = All (λ e. e.reply ≢ Refused NoMemory) history
+abbrev pub NeverOutOfMemory : History → Type 0
+NeverOutOfMemory history = All (λ e. e.reply ≢ Refused NoMemory) history

@@ -26,7 +26,7 @@ OpenHandlesKeepKeys = (m : PlainMount) (id : KeyId) → is_present m.claims id �
     → key_state_of m id ≡ (if is_busy m id then Incomplete else Absent)
 
 -- while a handle is open on a node whose policy names the key, no status is Absent
-abbrev pub OpenHandlesAreTold : Type 0
-OpenHandlesAreTold = (m : PlainMount) (n : ℕ) (id : KeyId) → has_handle m.handles n ≡ true
+abbrev pub OpenHandlesAreReported : Type 0
+OpenHandlesAreReported = (m : PlainMount) (n : ℕ) (id : KeyId) → has_handle m.handles n ≡ true
     → names_key m.nodes n id ≡ true → (uid : ℕ) (state : KeyState) (by_self : Bool) (users : ℕ)
     → (answer_to_key_status m uid id).reply ≡ Status state by_self users → state ≢ Absent

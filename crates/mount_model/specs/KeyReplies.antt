@@ -10,12 +10,12 @@ use Rattle.mount_model.specs.declared.reply.Reply.TheVariants.{Added, Removed, R
 use Rattle.mount_model.specs.declared.reply.Refusal.{Refusal}
 use Rattle.mount_model.specs.declared.reply.Refusal.TheVariants.{NoMemory}
 use Rattle.mount_model.specs.KeyAnswers.{adding}
-use Rattle.mount_model.specs.RemovalAnswers.{removing, removing_all, removal_told}
+use Rattle.mount_model.specs.RemovalAnswers.{removing, removing_all, reply_to_removal}
 pub use Rattle.mount_model.specs.KeyAnswers.{is_over_quota, status_by}
 
 -- this was the reply, or the call was out of memory
-abbrev pub IsToldOrNoMemory : Reply → Reply → Type 0
-IsToldOrNoMemory told reply = (reply ≡ told) ⊎ (reply ≡ Refused NoMemory)
+abbrev pub IsReplyOrNoMemory : Reply → Reply → Type 0
+IsReplyOrNoMemory told reply = (reply ≡ told) ⊎ (reply ≡ Refused NoMemory)
 
 -- ---- AddKey
 
@@ -35,7 +35,7 @@ addition_by claims uid raw = added_unless (add_fault claims uid raw) (key_id_of 
 
 abbrev pub removal_by : ClaimSet → Bool → ℕ → KeyId → Reply
 removal_by claims busy uid id =
-    removing Refused (removal_told (is_present (without_claim claims id uid) id) busy) claims busy uid id
+    removing Refused (reply_to_removal (is_present (without_claim claims id uid) id) busy) claims busy uid id
 
 abbrev pub clearing_by : ClaimSet → Bool → ℕ → KeyId → Reply
 clearing_by claims busy uid id = removing_all Refused (Removed false busy) claims busy uid id

@@ -7,8 +7,8 @@ use Rattle.mount_model.specs.declared.call.Op.TheVariants.{AddKey}
 use Rattle.mount_model.specs.PlainMount.{Raws, raw_in}
 use Rattle.mount_model.specs.Fits.{Fits}
 use Rattle.mount_model.specs.History.{MountEntry, History, IsLegal}
-use Rattle.mount_model.specs.ClaimHistory.{is_refused, claims_left}
-pub use Rattle.mount_model.specs.ClaimReplies.{is_load_told, is_store_told, TellsStore, TellsBy}
+use Rattle.mount_model.specs.ClaimHistory.{is_refused, claims_after_entry}
+pub use Rattle.mount_model.specs.ClaimReplies.{is_load_reply, is_store_reply, ReportsStore, ReportsClaims}
 
 -- ---- raw keys agree
 
@@ -17,13 +17,13 @@ raw_of (AddKey raw) = raw ∷ []
 raw_of other = []
 
 -- the raw keys that were added: those of calls that weren't refused
-abbrev pub raws_added : History → List (List ℕ)
-raws_added [] = []
-raws_added (e ∷ es) = (if is_refused e.reply then [] else raw_of e.call.op) ++ raws_added es
+abbrev pub added_raw_keys : History → List (List ℕ)
+added_raw_keys [] = []
+added_raw_keys (e ∷ es) = (if is_refused e.reply then [] else raw_of e.call.op) ++ added_raw_keys es
 
 -- no two different raw keys that were added share an identifier
 abbrev pub KeysAgree : History → Type 0
-KeysAgree history = (a b : List ℕ) → Contains (raws_added history) a → Contains (raws_added history) b
+KeysAgree history = (a b : List ℕ) → Contains (added_raw_keys history) a → Contains (added_raw_keys history) b
     → key_id_of a ≡ key_id_of b → a ≡ b
 
 -- the raw key that was added under its identifier before, if there is one, is this one
@@ -37,16 +37,16 @@ KeyAgrees raws other = ⊤
 
 -- ---- the replies, whatever raw keys were added
 
-abbrev pub TellsClaim : ClaimSet → MountEntry → Type 0
-TellsClaim claims e = TellsBy claims e.call.uid e.call.op e.reply
+abbrev pub ReportsClaimOf : ClaimSet → MountEntry → Type 0
+ReportsClaimOf claims e = ReportsClaims claims e.call.uid e.call.op e.reply
 
-abbrev pub TellsClaimsFrom : ClaimSet → History → Type 0
-TellsClaimsFrom claims [] = ⊤
-TellsClaimsFrom claims (e ∷ es) = TellsClaim claims e × TellsClaimsFrom (claims_left claims e) es
+abbrev pub ReportsClaimsFrom : ClaimSet → History → Type 0
+ReportsClaimsFrom claims [] = ⊤
+ReportsClaimsFrom claims (e ∷ es) = ReportsClaimOf claims e × ReportsClaimsFrom (claims_after_entry claims e) es
 
 -- each reply is one that the claims after the entries before it allow
-abbrev pub TellsClaims : History → Type 0
-TellsClaims history = TellsClaimsFrom no_claims history
+abbrev pub ReportsClaimsOf : History → Type 0
+ReportsClaimsOf history = ReportsClaimsFrom no_claims history
 
 -- ---- lawful histories
 
@@ -56,7 +56,7 @@ pub record IsLawful (history : History) : Type 0 where
   -- and so is each beginning of it whose raw keys agree, whatever keys were added later
   pub begun : (start rest : History) → history ≡ start ++ rest → KeysAgree start → IsLegal start
   -- in any case its replies agree with the claims that its calls leave
-  pub claims : TellsClaims history
+  pub claims : ReportsClaimsOf history
 
 -- each call fits
 abbrev pub AllFit : History → Type 0

@@ -4,7 +4,7 @@ pub mod Sealed
 pub mod States
 pub mod Walk
 pub mod EntryPaths
-pub mod Answered
+pub mod AnswerForms
 pub mod RemovalAnswers
 pub mod KeyAnswers
 pub mod KeyReplies

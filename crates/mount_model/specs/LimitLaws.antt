@@ -3,7 +3,7 @@
 use Rattle.std.specs.Prelude.{◌≡◌, ◌↔◌, ℕ, ◌+◌, Bool, true, false, List, [], length}
 use Rattle.plain_tree.specs.Nodes.{Name, Link}
 use Rattle.mount_model.specs.declared.call.Op.TheVariants.{MetaLoad}
-use Rattle.mount_model.specs.declared.limits.TheConstants.{MOST_LISTED}
+use Rattle.mount_model.specs.declared.limits.TheConstants.{MAX_LISTED}
 use Rattle.mount_model.specs.declared.reply.Reply.TheVariants.{Names}
 use Rattle.mount_model.specs.PlainMount.{PlainMount}
 use Rattle.mount_model.specs.OpenHandles.{opens_of}
@@ -27,5 +27,5 @@ pub record LimitsAreExact : Type 0 where
 -- a page reports further names exactly when the next page is not empty
 abbrev pub FurtherNamesFollow : Type 0
 FurtherNamesFollow = (m : PlainMount) (d start : ℕ) (first next : List Name) (more further : Bool)
-    → page_of m d start ≡ Names first more → page_of m d (start + MOST_LISTED) ≡ Names next further
+    → page_of m d start ≡ Names first more → page_of m d (start + MAX_LISTED) ≡ Names next further
     → (more ≡ false) ↔ (next ≡ [])

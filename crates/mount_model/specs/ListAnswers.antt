@@ -4,14 +4,14 @@ use Rattle.std.specs.Ordering.{nat_cmp, is_gt}
 use Rattle.std.specs.Cmp.Lexicographic.{slice_cmp}
 use Rattle.plain_tree.specs.Nodes.{Name}
 use Rattle.plain_tree.specs.NodesByNumber.{children, is_dir_at}
-use Rattle.mount_model.specs.declared.limits.TheConstants.{MOST_LISTED}
+use Rattle.mount_model.specs.declared.limits.TheConstants.{MAX_LISTED}
 use Rattle.mount_model.specs.declared.reply.Reply.{Reply}
 use Rattle.mount_model.specs.declared.reply.Reply.TheVariants as reply
 use Rattle.mount_model.specs.declared.reply.Refusal.TheVariants.{NotDir}
 use Rattle.mount_model.specs.PlainMount.{PlainMount}
 use Rattle.mount_model.specs.States.{shown}
-use Rattle.mount_model.specs.Walk.{PathParts, walked}
-use Rattle.mount_model.specs.Answered.{Answer, refused, told, at_node}
+use Rattle.mount_model.specs.Walk.{PathParts, walk_path}
+use Rattle.mount_model.specs.AnswerForms.{Answer, refusal_with, unchanged_with, at_node}
 
 abbrev pub put_in_order : Name → List Name → List Name
 put_in_order name [] = name ∷ []
@@ -23,20 +23,20 @@ abbrev pub in_order : List Name → List Name
 in_order [] = []
 in_order (x ∷ xs) = put_in_order x (in_order xs)
 
-abbrev pub listed : PlainMount → ℕ → List Name
-listed m d = in_order (map (λ e. shown m d e.0) (children m.nodes d))
+abbrev pub names_of_dir : PlainMount → ℕ → List Name
+names_of_dir m d = in_order (map (λ e. shown m d e.0) (children m.nodes d))
 
 -- at most 128 names from number start on, and whether further ones follow
 abbrev pub page_of : PlainMount → ℕ → ℕ → Reply
 page_of m d start =
-    reply.Names (take MOST_LISTED (drop start (listed m d)))
-    (nat_lt (start + MOST_LISTED) (length (listed m d)))
+    reply.Names (take MAX_LISTED (drop start (names_of_dir m d)))
+    (nat_lt (start + MAX_LISTED) (length (names_of_dir m d)))
 
 -- what is answered at node d
 abbrev pub page_at : PlainMount → ℕ → ℕ → Answer
 page_at m start d =
-    if not (is_dir_at m.nodes d) then refused m NotDir else
-    told m (page_of m d start)
+    if not (is_dir_at m.nodes d) then refusal_with m NotDir else
+    unchanged_with m (page_of m d start)
 
 abbrev pub answer_to_list : PlainMount → PathParts → ℕ → Answer
-answer_to_list m path start = at_node m (walked m path) (page_at m start)
+answer_to_list m path start = at_node m (walk_path m path) (page_at m start)

@@ -8,21 +8,21 @@ use Rattle.mount_model.specs.declared.reply.Reply.TheVariants as reply
 use Rattle.mount_model.specs.declared.reply.Refusal.TheVariants.{Inval, NotFound}
 use Rattle.mount_model.specs.PlainMount.{PlainMount}
 use Rattle.mount_model.specs.States.{is_keyed, shown}
-use Rattle.mount_model.specs.Walk.{PathParts, walked}
-use Rattle.mount_model.specs.Answered.{Answer, refused, told, at_node}
+use Rattle.mount_model.specs.Walk.{PathParts, walk_path}
+use Rattle.mount_model.specs.AnswerForms.{Answer, refusal_with, unchanged_with, at_node}
 
 -- ---- ReadLink
 
-abbrev pub target_told : PlainMount → ℕ → Option Node → Answer
-target_told m n None = refused m NotFound
-target_told m n (Some v) = elim v.body [
-  | Dir entries ↦ refused m Inval
-  | File contents ↦ refused m Inval
-  | Link target ↦ told m (reply.Target (shown m n target))
+abbrev pub target_answer : PlainMount → ℕ → Option Node → Answer
+target_answer m n None = refusal_with m NotFound
+target_answer m n (Some v) = elim v.body [
+  | Dir entries ↦ refusal_with m Inval
+  | File contents ↦ refusal_with m Inval
+  | Link target ↦ unchanged_with m (reply.Target (shown m n target))
 ]
 
 abbrev pub answer_to_read_link : PlainMount → PathParts → Answer
-answer_to_read_link m path = at_node m (walked m path) λ n. target_told m n (get m.nodes n)
+answer_to_read_link m path = at_node m (walk_path m path) λ n. target_answer m n (get m.nodes n)
 
 -- ---- Stat
 
@@ -37,10 +37,10 @@ size_of m n (Dir entries) = length entries
 size_of m n (File contents) = length contents
 size_of m n (Link target) = length (shown m n target)
 
-abbrev pub node_told : PlainMount → ℕ → Option Node → Answer
-node_told m n None = refused m NotFound
-node_told m n (Some v) =
-    told m (reply.Stat (node_kind v.body) n (size_of m n v.body) (is_some v.context) (is_keyed m n))
+abbrev pub stat_answer : PlainMount → ℕ → Option Node → Answer
+stat_answer m n None = refusal_with m NotFound
+stat_answer m n (Some v) =
+    unchanged_with m (reply.Stat (node_kind v.body) n (size_of m n v.body) (is_some v.context) (is_keyed m n))
 
 abbrev pub answer_to_stat : PlainMount → PathParts → Answer
-answer_to_stat m path = at_node m (walked m path) λ n. node_told m n (get m.nodes n)
+answer_to_stat m path = at_node m (walk_path m path) λ n. stat_answer m n (get m.nodes n)

@@ -5,7 +5,7 @@ use Rattle.policy_ctx.specs.declared.policy.Policy.{Policy}
 use Rattle.policy_ctx.specs.declared.policy.Context.{Context}
 use Rattle.plain_tree.specs.Nodes.{Name}
 use Rattle.plain_tree.specs.NodesByNumber.{children, context_at, entry}
-use Rattle.mount_limits.specs.declared.TheConstants.{MOST_CHILDREN}
+use Rattle.mount_limits.specs.declared.TheConstants.{MAX_CHILDREN}
 use Rattle.mount_model.specs.declared.reply.Refusal.{Refusal}
 use Rattle.mount_model.specs.declared.reply.Refusal.TheVariants.{NoKey, Inval, Exists, XDev}
 use Rattle.mount_model.specs.declared.reply.Refusal.TheVariants.{NoSpace, NoKeyClash}
@@ -25,7 +25,7 @@ may_hold (Some c) held = has_policy c.policy held
 
 -- it is another directory, and is full
 abbrev pub is_full_elsewhere : PlainMount → ℕ → ℕ → Bool
-is_full_elsewhere m d to = not (to == d) && nat_le MOST_CHILDREN (length (children m.nodes to))
+is_full_elsewhere m d to = not (to == d) && nat_le MAX_CHILDREN (length (children m.nodes to))
 
 -- why x, of the directory d, can't get this name in the directory to; above is true if x is that
 -- directory or is above it

@@ -6,7 +6,7 @@ use Rattle.plain_tree.specs.NodesByNumber.{context_at, policy_at, entry}
 use Rattle.mount_model.specs.PlainMount.{PlainMount}
 use Rattle.mount_model.specs.Sealed.{texts}
 use Rattle.mount_model.specs.States.{shown}
-use Rattle.mount_model.specs.Walk.{found}
+use Rattle.mount_model.specs.Walk.{visible_entry}
 use Rattle.mount_model.specs.WellFormed.{IsWellFormed}
 
 -- an entry of a directory with a policy has that very policy
@@ -22,12 +22,12 @@ TextsDiffer = (m : PlainMount) (d : ℕ) (a b : Name) (x y : ℕ) (c : Context) 
     → texts m.raws d c a ≡ texts m.raws d c b → a ≡ b
 
 -- the shown form of a name, be it itself or its text, resolves to exactly the node that the name names
-abbrev pub ShownNamesLead : Type 0
-ShownNamesLead = (m : PlainMount) (d : ℕ) (name : Name) (x : ℕ) → IsWellFormed m
+abbrev pub VisibleNamesResolve : Type 0
+VisibleNamesResolve = (m : PlainMount) (d : ℕ) (name : Name) (x : ℕ) → IsWellFormed m
     → entry m.nodes d name ≡ Some x
-    → found m d (shown m d name) ≡ Some (name, x)
+    → visible_entry m d (shown m d name) ≡ Some (name, x)
 
 -- and a part resolves to nothing that is not shown so
-abbrev pub OnlyShownNamesLead : Type 0
-OnlyShownNamesLead = (m : PlainMount) (d : ℕ) (part : Name) (e : Name × ℕ) → found m d part ≡ Some e
+abbrev pub OnlyVisibleNamesResolve : Type 0
+OnlyVisibleNamesResolve = (m : PlainMount) (d : ℕ) (part : Name) (e : Name × ℕ) → visible_entry m d part ≡ Some e
     → (entry m.nodes d e.0 ≡ Some e.1) × (shown m d e.0 ≡ part)

@@ -3,7 +3,7 @@ use Rattle.std.specs.Prelude.{ℕ, Bool, Option, ◌==◌, ◌&&◌, not, filter
 use Rattle.std.specs.Option.{option_map, unwrap_or}
 use Rattle.std.specs.List.{find, list_any}
 use Rattle.std.specs.FinMap as map
-use Rattle.number_map.specs.Numbered.{Numbered}
+use Rattle.number_map.specs.Numbered.{NumberedValues}
 use Rattle.mount_model.specs.declared.handle.Handle.{Handle}
 use Rattle.mount_model.specs.PlainMount.{HandleList}
 
@@ -22,5 +22,5 @@ abbrev pub without_handle : ℕ → ℕ → HandleList → HandleList
 without_handle caller number handles = filter (λ h. not (is_handle caller number h)) handles
 
 -- how many handles the caller ever opened
-abbrev pub opens_of : Numbered ℕ → ℕ → ℕ
+abbrev pub opens_of : NumberedValues ℕ → ℕ → ℕ
 opens_of opened caller = unwrap_or (map.get opened caller) 0

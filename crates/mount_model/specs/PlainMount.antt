@@ -6,7 +6,7 @@ use Rattle.std.specs.Cmp.Lexicographic.{slice_cmp}
 use Rattle.std.specs.FinMap as map
 use Rattle.policy_ctx.specs.declared.policy.KeyId.{KeyId}
 use Rattle.user_claims.specs.Claims.{ClaimSet, no_claims}
-use Rattle.number_map.specs.Numbered.{Numbered}
+use Rattle.number_map.specs.Numbered.{NumberedValues}
 use Rattle.plain_tree.specs.Nodes.{Nodes}
 use Rattle.plain_tree.specs.Changes.{first_nodes}
 use Rattle.meta_files.specs.Records.{RecordList}
@@ -30,7 +30,7 @@ pub record PlainMount : Type 0 where
   pub raws : Raws
   -- what is open, and how many handles each caller ever opened
   pub handles : HandleList
-  pub opened : Numbered ℕ
+  pub opened : NumberedValues ℕ
   -- the records in the order in which they were first stored
   pub records : RecordList
 

@@ -11,7 +11,7 @@ use Rattle.mount_model.specs.declared.reply.Refusal.{Refusal}
 use Rattle.mount_model.specs.declared.reply.Refusal.TheVariants.{NoKey, Access}
 use Rattle.mount_model.specs.PlainMount.{PlainMount}
 use Rattle.mount_model.specs.States.{is_busy}
-use Rattle.mount_model.specs.Answered.{Answer, refused}
+use Rattle.mount_model.specs.AnswerForms.{Answer, refusal_with}
 
 -- there is no claim on the key, and nothing open needs it
 abbrev pub is_absent : ClaimSet → Bool → KeyId → Bool
@@ -25,17 +25,17 @@ removing refuse due claims busy uid id =
     due
 
 -- others is whether a claim is left; busy, if none is, whether something open needs the key
-abbrev pub removal_told : Bool → Bool → Reply
-removal_told left busy = Removed left (not left && busy)
+abbrev pub reply_to_removal : Bool → Bool → Reply
+reply_to_removal left busy = Removed left (not left && busy)
 
-abbrev pub removed : PlainMount → ℕ → KeyId → Answer
-removed m uid id = record {
-  reply = removal_told (is_present (without_claim m.claims id uid) id) (is_busy m id);
+abbrev pub answer_to_removed_claim : PlainMount → ℕ → KeyId → Answer
+answer_to_removed_claim m uid id = record {
+  reply = reply_to_removal (is_present (without_claim m.claims id uid) id) (is_busy m id);
   mount = record m { claims = without_claim m.claims id uid };
 }
 
 abbrev pub answer_to_remove_key : PlainMount → ℕ → KeyId → Answer
-answer_to_remove_key m uid id = removing (refused m) (removed m uid id) m.claims (is_busy m id) uid id
+answer_to_remove_key m uid id = removing (refusal_with m) (answer_to_removed_claim m uid id) m.claims (is_busy m id) uid id
 
 -- the outcome of removing all claims on the key: a refusal, or `due`
 abbrev pub removing_all : {A : Type 0} → (Refusal → A) → A → ClaimSet → Bool → ℕ → KeyId → A
@@ -44,12 +44,12 @@ removing_all refuse due claims busy uid id =
     if is_absent claims busy id then refuse NoKey else
     due
 
-abbrev pub all_removed : PlainMount → KeyId → Answer
-all_removed m id = record {
+abbrev pub answer_to_all_removed : PlainMount → KeyId → Answer
+answer_to_all_removed m id = record {
   reply = Removed false (is_busy m id);
   mount = record m { claims = without_id m.claims id };
 }
 
 abbrev pub answer_to_remove_key_all : PlainMount → ℕ → KeyId → Answer
 answer_to_remove_key_all m uid id =
-    removing_all (refused m) (all_removed m id) m.claims (is_busy m id) uid id
+    removing_all (refusal_with m) (answer_to_all_removed m id) m.claims (is_busy m id) uid id

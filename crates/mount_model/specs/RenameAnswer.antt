@@ -6,9 +6,9 @@ use Rattle.plain_tree.specs.Changes.{moved}
 use Rattle.mount_model.specs.declared.reply.Refusal.TheVariants.{NoKey, Inval}
 use Rattle.mount_model.specs.PlainMount.{PlainMount}
 use Rattle.mount_model.specs.States.{is_keyed}
-use Rattle.mount_model.specs.Walk.{PathParts, found}
+use Rattle.mount_model.specs.Walk.{PathParts, visible_entry}
 use Rattle.mount_model.specs.EntryPaths.{is_root, last_part, parent, is_at_or_above}
-use Rattle.mount_model.specs.Answered.{Answer, refused, done_unless, at_node, at_entry}
+use Rattle.mount_model.specs.AnswerForms.{Answer, refusal_with, done_unless, at_node, at_entry}
 use Rattle.mount_model.specs.MoveRefusal.{move_refusal}
 
 -- the node retains its policy, nonce and contents
@@ -25,7 +25,7 @@ answer_to_move_from m path d name x =
 
 abbrev pub answer_to_rename : PlainMount → PathParts → PathParts → Answer
 answer_to_rename m old_path new_path =
-    if is_root old_path || is_root new_path then refused m Inval else
+    if is_root old_path || is_root new_path then refusal_with m Inval else
     at_node m (parent m old_path) λ d.
-    if not (is_keyed m d) then refused m NoKey else
-    at_entry m (found m d (last_part old_path)) (answer_to_move_from m new_path d)
+    if not (is_keyed m d) then refusal_with m NoKey else
+    at_entry m (visible_entry m d (last_part old_path)) (answer_to_move_from m new_path d)

@@ -6,8 +6,8 @@ use Rattle.plain_tree.specs.Facts.{EachNode, EachName}
 use Rattle.plain_tree.specs.Tree.{IsTree}
 use Rattle.plain_tree.specs.Seals.{IsSealed}
 use Rattle.mount_model.specs.declared.limits.TheConstants.{LAST_NODE}
-use Rattle.name_crypt.specs.declared.limits.TheConstants.{MOST_NAME_BYTES}
-use Rattle.mount_limits.specs.declared.TheConstants.{MOST_FILE_BYTES, MOST_BLOCKS}
+use Rattle.name_crypt.specs.declared.limits.TheConstants.{MAX_NAME_BYTES}
+use Rattle.mount_limits.specs.declared.TheConstants.{MAX_FILE_BYTES, MAX_BLOCKS}
 use Rattle.mount_model.specs.PlainMount.{Raws, raw_in}
 use Rattle.mount_model.specs.Sealed.{texts}
 use Rattle.mount_model.specs.Carried.{IsPart, IsTarget, AreFewBytes}
@@ -15,13 +15,13 @@ use Rattle.mount_model.specs.Blocks.{block_total}
 
 -- a part of at most 255 bytes
 abbrev pub IsName : Name → Type 0
-IsName name = IsPart name × (length name ≤ MOST_NAME_BYTES)
+IsName name = IsPart name × (length name ≤ MAX_NAME_BYTES)
 
 -- a file has at most 1,048,576 bytes, a target at most 255
 abbrev pub IsBody : Body → Type 0
 IsBody (Dir entries) = ⊤
-IsBody (File contents) = AreFewBytes contents MOST_FILE_BYTES
-IsBody (Link target) = IsTarget target × (length target ≤ MOST_NAME_BYTES)
+IsBody (File contents) = AreFewBytes contents MAX_FILE_BYTES
+IsBody (Link target) = IsTarget target × (length target ≤ MAX_NAME_BYTES)
 
 -- an identifier has 16 bytes, and its raw key was added
 abbrev pub HasRaw : Raws → Option Context → Type 0
@@ -35,4 +35,4 @@ pub record HasNodes (raws : Raws) (nodes : Nodes) (next : ℕ) : Type 0 where
   pub bodies : EachNode (λ n v. IsBody v.body) nodes
   pub policies : EachNode (λ n v. HasRaw raws v.context) nodes
   pub numbers : next ≤ LAST_NODE
-  pub blocks : block_total nodes ≤ MOST_BLOCKS
+  pub blocks : block_total nodes ≤ MAX_BLOCKS

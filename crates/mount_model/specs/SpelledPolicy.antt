@@ -11,8 +11,8 @@ use Rattle.policy_ctx.specs.Settings.{unit_of_log2}
 use Rattle.policy_ctx.specs.Policy.{policy_bytes}
 use Rattle.policy_ctx.specs.Context.{id_in, is_by_mode_in}
 
-abbrev pub pad_told : ℕ → Pad
-pad_told flags =
+abbrev pub pad_of_bytes : ℕ → Pad
+pad_of_bytes flags =
     if flags % 4 == 0 then P4 else
     if flags % 4 == 1 then P8 else
     if flags % 4 == 2 then P16 else
@@ -20,7 +20,7 @@ pad_told flags =
 
 abbrev pub policy_in : List ℕ → Policy
 policy_in bytes = record {
-  pad = pad_told (slice_index bytes 3);
+  pad = pad_of_bytes (slice_index bytes 3);
   unit = unwrap_or (unit_of_log2 (slice_index bytes 4)) Block;
   by_mode = is_by_mode_in bytes;
   id = id_in bytes;

@@ -41,11 +41,11 @@ is_keyed_under m n (Some c) = is_present m.claims c.policy.id || has_handle m.ha
 abbrev pub is_keyed : PlainMount → ℕ → Bool
 is_keyed m n = is_keyed_under m n (context_at m.nodes n)
 
-abbrev pub shown_under : PlainMount → ℕ → Name → Option Context → Name
-shown_under m n name None = name
-shown_under m n name (Some c) = if is_keyed m n then name else texts m.raws n c name
+abbrev pub visible_name_under : PlainMount → ℕ → Name → Option Context → Name
+visible_name_under m n name None = name
+visible_name_under m n name (Some c) = if is_keyed m n then name else texts m.raws n c name
 
 -- how a name of the directory n, or the target of the symlink n, is shown: plain if the node is keyed,
 -- else by its no-key text
 abbrev pub shown : PlainMount → ℕ → Name → Name
-shown m n name = shown_under m n name (context_at m.nodes n)
+shown m n name = visible_name_under m n name (context_at m.nodes n)

@@ -27,10 +27,10 @@ IsAnswered m caller call reply after =
 
 -- out of memory, and nothing changed: this may come in place of any answer to an operation that may take
 -- memory
-abbrev pub IsWantOfMemory : PlainMount → Call → Reply → PlainMount → Type 0
-IsWantOfMemory m call reply after = IsTrue (takes_memory call.op) × (reply ≡ Refused NoMemory) × (after ≡ m)
+abbrev pub IsOutOfMemory : PlainMount → Call → Reply → PlainMount → Type 0
+IsOutOfMemory m call reply after = IsTrue (takes_memory call.op) × (reply ≡ Refused NoMemory) × (after ≡ m)
 
 -- a call, its reply, and the mount after it
 abbrev pub IsMountStep : PlainMount → ℕ → Call → Reply → PlainMount → Type 0
 IsMountStep m caller call reply after =
-    IsAnswered m caller call reply after ⊎ IsWantOfMemory m call reply after
+    IsAnswered m caller call reply after ⊎ IsOutOfMemory m call reply after

@@ -6,7 +6,7 @@ ghost use Rattle.mount_model.specs.Fits.{Fits, OpFits};
 ghost use Rattle.mount_model.specs.Carriers.{carries_bytes};
 
 use super::limits::{
-    MOST_CARRIED_BYTES, MOST_RAW_BYTES, MOST_RECORD_NAME_BYTES, MOST_TARGET_BYTES, MOST_WRITE_BYTES,
+    MAX_CARRIED_BYTES, MAX_RAW_BYTES, MAX_RECORD_NAME_BYTES, MAX_TARGET_BYTES, MAX_WRITE_BYTES,
 };
 use super::{Bytes, KeyId, Path};
 use std::alloc::{AllocError, Global};
@@ -153,7 +153,7 @@ impl Op {
         ensures { IsTrue result ↔ OpFits self.now }
     {
         match self {
-            Op::AddKey { raw } => has_length(raw, MOST_RAW_BYTES),
+            Op::AddKey { raw } => has_length(raw, MAX_RAW_BYTES),
             Op::SetPolicy { path, .. }
             | Op::GetPolicy { path }
             | Op::Mkdir { path, .. }
@@ -166,10 +166,10 @@ impl Op {
             | Op::OpenNode { path } => path.fits(),
             Op::Symlink { path, target, .. } => path.fits() && is_target(target),
             Op::Rename { old_path, new_path } => old_path.fits() && new_path.fits(),
-            Op::Write { bytes, .. } => are_few(bytes.as_slice(), MOST_WRITE_BYTES),
-            Op::MetaLoad { name } => has_length(name, MOST_RECORD_NAME_BYTES),
+            Op::Write { bytes, .. } => are_few(bytes.as_slice(), MAX_WRITE_BYTES),
+            Op::MetaLoad { name } => has_length(name, MAX_RECORD_NAME_BYTES),
             Op::MetaStore { name, bytes, .. } => {
-                has_length(name, MOST_RECORD_NAME_BYTES) && bytes.len() <= MOST_CARRIED_BYTES
+                has_length(name, MAX_RECORD_NAME_BYTES) && bytes.len() <= MAX_CARRIED_BYTES
             }
             Op::RemoveKey { .. }
             | Op::RemoveKeyAll { .. }
@@ -192,7 +192,7 @@ fn has_length(bytes: &Bytes, most: usize) -> bool
 fn is_target(bytes: &Bytes) -> bool
     ensures { IsTrue result ↔ IsTarget bytes.now }
 {
-    has_length(bytes, MOST_TARGET_BYTES) && bytes.as_slice().iter().all(|byte| *byte != 0)
+    has_length(bytes, MAX_TARGET_BYTES) && bytes.as_slice().iter().all(|byte| *byte != 0)
 }
 
 // Whether there are at most `most` bytes.

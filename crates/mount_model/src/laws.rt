@@ -3,26 +3,26 @@
 ghost use Rattle.std.specs.Prelude.{◌≡◌, ℕ, true, false, ◌++◌};
 ghost use Rattle.mount_model.specs.PlainMount.{PlainMount, empty_mount};
 ghost use Rattle.mount_model.specs.Step.{IsMountStep, takes_memory};
-ghost use Rattle.mount_model.specs.History.{History, IsLegal, NeverWantsMemory, calls_of, mount_after};
+ghost use Rattle.mount_model.specs.History.{History, IsLegal, NeverOutOfMemory, calls_of, mount_after};
 ghost use Rattle.mount_model.specs.ClaimHistory.{claims_after, is_refused};
 ghost use Rattle.mount_model.specs.Fits.{Fits};
 ghost use Rattle.mount_model.specs.Lawful.{KeysAgree, KeyAgrees, AllFit, IsLawful};
 ghost use Rattle.mount_model.specs.WellFormed.{IsWellFormed};
 ghost use Rattle.mount_model.specs.NameLaws.{PoliciesAreInherited, TextsDiffer};
-ghost use Rattle.mount_model.specs.NameLaws.{ShownNamesLead, OnlyShownNamesLead};
+ghost use Rattle.mount_model.specs.NameLaws.{VisibleNamesResolve, OnlyVisibleNamesResolve};
 ghost use Rattle.mount_model.specs.PolicyLaws.{PoliciesAreReadBack};
-ghost use Rattle.mount_model.specs.OrderLaws.{HandlesKeepNodesKeyed, CreationsNeedTheKey};
+ghost use Rattle.mount_model.specs.OrderLaws.{HandlesHoldNodeKeys, CreationsNeedTheKey};
 ghost use Rattle.mount_model.specs.OrderLaws.{OnlyEmptyOnesAreEncrypted};
 ghost use Rattle.mount_model.specs.LockedNodes.{KeysOrHandlesKeyNodes, LockedNodesShowTexts};
 ghost use Rattle.mount_model.specs.ContentLaws.{WrittenIsRead};
 ghost use Rattle.mount_model.specs.LimitLaws.{LimitsAreExact, FurtherNamesFollow};
-ghost use Rattle.mount_model.specs.KeyLaws.{OtherClaimsStay, OpenHandlesKeepKeys, OpenHandlesAreTold};
+ghost use Rattle.mount_model.specs.KeyLaws.{OtherClaimsStay, OpenHandlesKeepKeys, OpenHandlesAreReported};
 
 use super::{Call, Refusal, Reply};
 
 /// The calls of a legal history determine the whole history if no reply is out of memory.
 pub fn calls_determine_replies()
-    ensures { (g h : History) → IsLegal g → IsLegal h → NeverWantsMemory g → NeverWantsMemory h
+    ensures { (g h : History) → IsLegal g → IsLegal h → NeverOutOfMemory g → NeverOutOfMemory h
         → calls_of g ≡ calls_of h → g ≡ h }
 {}
 
@@ -34,7 +34,7 @@ pub fn refusals_change_nothing()
 
 /// Only calls that may take memory can be out of memory. Removing keys, a status, closing and dropping
 /// caches never are.
-pub fn some_calls_never_want_memory()
+pub fn some_calls_take_no_memory()
     ensures { (m : PlainMount) (caller : ℕ) (call : Call) (after : PlainMount)
         → IsMountStep m caller call (Reply.Refused Refusal.NoMemory) after → takes_memory call.op ≡ true }
 {}
@@ -70,11 +70,11 @@ pub fn legal_histories_are_lawful()
 /// In a well-formed mount an entry of an encrypted directory has that directory's policy, and two names
 /// of it have two no-key texts. The shown form of a name, itself or its text, resolves to exactly the
 /// node that the name names. A part resolves to nothing else.
-pub fn names_lead_as_they_are_shown()
+pub fn visible_names_resolve()
     ensures inherited { PoliciesAreInherited }
     ensures apart { TextsDiffer }
-    ensures lead { ShownNamesLead }
-    ensures only { OnlyShownNamesLead }
+    ensures lead { VisibleNamesResolve }
+    ensures only { OnlyVisibleNamesResolve }
 {}
 
 /// A removal by one user leaves every other claim. Without a claim a key is Incomplete exactly when
@@ -82,13 +82,13 @@ pub fn names_lead_as_they_are_shown()
 pub fn removals_leave_other_claims()
     ensures others { OtherClaimsStay }
     ensures state { OpenHandlesKeepKeys }
-    ensures told { OpenHandlesAreTold }
+    ensures told { OpenHandlesAreReported }
 {}
 
 /// A node is keyed while a handle is open on it. If the key isn't present, a creation is NoKey before it
 /// is Exists. A policy for a directory with entries is NotEmpty before it is NoKey.
 pub fn refusals_come_in_their_order()
-    ensures keyed { HandlesKeepNodesKeyed }
+    ensures keyed { HandlesHoldNodeKeys }
     ensures create { CreationsNeedTheKey }
     ensures encrypt { OnlyEmptyOnesAreEncrypted }
 {}

@@ -18,9 +18,9 @@ use item_list::Items;
 pub use laws::{
     calls_determine_replies, claims_come_from_calls, further_names_follow,
     legal_histories_are_lawful, limits_are_exact, locked_nodes_show_texts, mounts_are_well_formed,
-    names_lead_as_they_are_shown, policies_are_read_back, refusals_change_nothing,
-    refusals_come_in_their_order, removals_leave_other_claims, some_calls_never_want_memory,
-    steps_leave_well_formed_mounts, written_contents_are_read,
+    policies_are_read_back, refusals_change_nothing, refusals_come_in_their_order,
+    removals_leave_other_claims, some_calls_take_no_memory, steps_leave_well_formed_mounts,
+    visible_names_resolve, written_contents_are_read,
 };
 pub use path::{Part, Path};
 pub use port::MountPort;

@@ -5,7 +5,7 @@ ghost use Rattle.std.specs.Prelude.{OnOk, OnErr, length, option_copied, slice_ge
 ghost use Rattle.mount_model.specs.Carried.{IsPart, IsPath};
 
 use super::Bytes;
-use super::limits::{MOST_PART_BYTES, MOST_PARTS};
+use super::limits::{MAX_PART_BYTES, MAX_PARTS};
 use item_list::Items;
 use std::alloc::{AllocError, Global};
 use std::marker::Model;
@@ -57,7 +57,7 @@ impl Part {
         ensures { IsTrue result ↔ IsPart self.now }
     {
         let bytes = self.bytes.as_slice();
-        bytes.len() <= MOST_PART_BYTES
+        bytes.len() <= MAX_PART_BYTES
             && bytes != b"".as_slice()
             && bytes != b".".as_slice()
             && bytes != b"..".as_slice()
@@ -145,6 +145,6 @@ impl Path {
     pub(crate) fn fits(&self) -> bool
         ensures { IsTrue result ↔ IsPath self.now }
     {
-        self.parts.len() <= MOST_PARTS && self.parts.iter().all(|part| part.fits())
+        self.parts.len() <= MAX_PARTS && self.parts.iter().all(|part| part.fits())
     }
 }

@@ -19,7 +19,7 @@ pub trait MountPort {
     ghost floor: { Self → ℕ };
 
     // These calls turn the first port into the second.
-    ghost came: { Self → PlacedCalls → Self → Type 0 };
+    ghost after_calls: { Self → PlacedCalls → Self → Type 0 };
 
     /// Returns the caller's number.
     fn caller(&self) -> u32
@@ -34,18 +34,18 @@ pub trait MountPort {
     fn call(&mut self, call: &Call) -> Placed
         requires left { 0 < calls_left self.old }
         requires fits { Fits call.now }
-        ensures came { came self.old
+        ensures after_calls { after_calls self.old
             ((result.place, entry (who self.old) call.now result.reply) ∷ []) self.new }
         ensures caller { who self.new ≡ who self.old }
         ensures one_fewer { calls_left self.new + 1 ≡ calls_left self.old }
         ensures from { floor self.old ≤ result.place }
         ensures below { result.place < floor self.new };
 
-    ghost by_none: { (port : Self) → came port [] port };
+    ghost by_none: { (port : Self) → after_calls port [] port };
 
     ghost by_more: { (first second third : Self) (e f : PlacedCalls)
-        → came first e second → came second f third → came first (e ++ f) third };
+        → after_calls first e second → after_calls second f third → after_calls first (e ++ f) third };
 
     ghost one_caller: { (first second : Self) (e : PlacedCalls)
-        → came first e second → who second ≡ who first };
+        → after_calls first e second → who second ≡ who first };
 }

@@ -7,13 +7,13 @@ use Rattle.number_map.proofs.NumberedLemmas.{insert_other, changed_through, chan
 use Rattle.plain_tree.specs.Nodes.{Name, Children, Body, Dir, File, Link, Node, Nodes, children_of}
 use Rattle.plain_tree.specs.BodyChanges.{with_child, without_child, with_children}
 use Rattle.plain_tree.specs.NodesByNumber.{children_in, children, context_at, context_in as plain_context}
-use Rattle.plain_tree.specs.Changes.{on_children, named_as, name_put, name_taken, made, dropped}
+use Rattle.plain_tree.specs.Changes.{on_children, named_as, with_name, without_entry_name, with_new_node, dropped}
 use Rattle.plain_tree.specs.Facts.{AgreesBy}
 use Rattle.plain_tree.specs.Stored.{IsNameOf}
 use Rattle.plain_tree.proofs.AgreeLemmas.{agree_inserted, agree_edited}
 use Rattle.plain_tree.proofs.StoredLemmas.{puts_agree, removals_agree}
 use Rattle.disk_tree.specs.DiskTree.{Disk}
-use Rattle.disk_tree.specs.EntryChanges.{entered}
+use Rattle.disk_tree.specs.EntryChanges.{with_entry_and_name}
 use Rattle.disk_tree.specs.EntryChanges as disk
 use Rattle.disk_tree.specs.Entries.{with_entry, without_entry}
 use Rattle.disk_tree.specs.Nodes.{on_body, with_entries}
@@ -63,13 +63,13 @@ module _ (raws : Raws) (nodes : Nodes) (on_disk : Disk) (agree : AgreesBy (store
   form_at stored name is v there = is ∙ ap (λ (o : Option Node). stored_form raws d (plain_context o) name) there
 
   pub put_agrees : (stored : List ℕ) (name : Name) (x : ℕ) → stored ≡ stored_form raws d (context_at nodes d) name
-      → AgreesBy (stored_node raws) (name_put nodes d name x) (changed on_disk d (on_body (with_entries (with_entry stored x))))
+      → AgreesBy (stored_node raws) (with_name nodes d name x) (changed on_disk d (on_body (with_entries (with_entry stored x))))
   put_agrees stored name x is =
       agree_edited (stored_node raws) nodes on_disk agree d (on_children (with_child name x)) (on_body (with_entries (with_entry stored x)))
       (λ v there. node_put raws d stored name x v (form_at stored name is v there))
 
   pub taken_agrees : (stored : List ℕ) (name : Name) → stored ≡ stored_form raws d (context_at nodes d) name → StoredApart raws d (context_at nodes d) name (children nodes d)
-      → AgreesBy (stored_node raws) (name_taken nodes d name) (changed on_disk d (on_body (with_entries (without_entry stored))))
+      → AgreesBy (stored_node raws) (without_entry_name nodes d name) (changed on_disk d (on_body (with_entries (without_entry stored))))
   taken_agrees stored name is apart =
       agree_edited (stored_node raws) nodes on_disk agree d (on_children (without_child name)) (on_body (with_entries (without_entry stored)))
       (λ v there. node_taken raws d stored name v (form_at stored name is v there) (subst (λ (o : Option Node). StoredApart raws d (plain_context o) name (children_in o)) there apart))
@@ -81,24 +81,24 @@ named_agrees raws nodes on_disk agree x named =
 
 -- a new node, and the name that resolves to it
 module _ (raws : Raws) (nodes : Nodes) (on_disk : Disk) (agree : AgreesBy (stored_node raws) nodes on_disk) (d : ℕ) (name : Name) (x : ℕ) (v : Node) (apart : d ≢ x) where
-  made_so : v.named ≡ true → changed (name_put (insert nodes x v) d name x) x (named_as true) ≡ made nodes d name x v
+  made_so : v.named ≡ true → changed (with_name (insert nodes x v) d name x) x (named_as true) ≡ with_new_node nodes d name x v
   made_so named =
       ap (λ (ns : Nodes). changed ns x (named_as true)) (changed_through nodes d x v (on_children (with_child name x)) apart)
-      ∙ changed_inserted (name_put nodes d name x) x v (named_as true)
-      ∙ ap (insert (name_put nodes d name x) x) (sym (λ i. record { named = named i; context = v.context; body = v.body }))
+      ∙ changed_inserted (with_name nodes d name x) x v (named_as true)
+      ∙ ap (insert (with_name nodes d name x) x) (sym (λ i. record { named = named i; context = v.context; body = v.body }))
 
   pub made_agrees : v.named ≡ true → (stored : List ℕ) → stored ≡ stored_form raws d (context_at nodes d) name → (w : StoredNode) → w ≡ stored_node raws x v
-      → AgreesBy (stored_node raws) (made nodes d name x v) (entered (insert on_disk x w) d stored x)
+      → AgreesBy (stored_node raws) (with_new_node nodes d name x v) (with_entry_and_name (insert on_disk x w) d stored x)
   made_agrees named stored is w w_is =
-      subst (λ (ns : Nodes). AgreesBy (stored_node raws) ns (entered (insert on_disk x w) d stored x)) (made_so named)
-      (named_agrees raws (name_put (insert nodes x v) d name x) (changed (insert on_disk x w) d (on_body (with_entries (with_entry stored x))))
+      subst (λ (ns : Nodes). AgreesBy (stored_node raws) ns (with_entry_and_name (insert on_disk x w) d stored x)) (made_so named)
+      (named_agrees raws (with_name (insert nodes x v) d name x) (changed (insert on_disk x w) d (on_body (with_entries (with_entry stored x))))
       (put_agrees raws (insert nodes x v) (insert on_disk x w) (agree_inserted (stored_node raws) nodes on_disk agree x v w w_is) d stored name x
       (is ∙ ap (λ (o : Option Node). stored_form raws d (plain_context o) name) (sym (insert_other nodes x v d apart)))) x true)
 
 -- a name that goes
 pub dropped_agrees : (raws : Raws) (nodes : Nodes) (on_disk : Disk) → AgreesBy (stored_node raws) nodes on_disk → (d : ℕ) (name : Name) (x : ℕ) (stored : List ℕ)
     → stored ≡ stored_form raws d (context_at nodes d) name → StoredApart raws d (context_at nodes d) name (children nodes d)
-    → AgreesBy (stored_node raws) (dropped nodes d name x) (disk.dropped on_disk d stored x)
+    → AgreesBy (stored_node raws) (dropped nodes d name x) (disk.without_entry_and_name on_disk d stored x)
 dropped_agrees raws nodes on_disk agree d name x stored is apart =
-    named_agrees raws (name_taken nodes d name) (changed on_disk d (on_body (with_entries (without_entry stored))))
+    named_agrees raws (without_entry_name nodes d name) (changed on_disk d (on_body (with_entries (without_entry stored))))
     (taken_agrees raws nodes on_disk agree d stored name is apart) x false

@@ -11,7 +11,7 @@ use Rattle.user_claims.specs.ClaimCounts.{is_present}
 use Rattle.dentry_cache.specs.Names.{Pair, NameList}
 use Rattle.dentry_cache.specs.HeldNames.{HoldsNoneIn}
 use Rattle.disk_tree.specs.DiskTree.{Disk, IsDirAt, of_node}
-use Rattle.disk_tree.specs.EntryChanges.{entered, dropped, moved}
+use Rattle.disk_tree.specs.EntryChanges.{with_entry_and_name, without_entry_and_name, with_moved_entry}
 use Rattle.disk_tree.specs.Entries.{Entries}
 use Rattle.disk_tree.specs.Nodes.{IsDir, with_entries, with_context}
 use Rattle.disk_tree.specs.declared.node.StoredNode.{StoredNode}
@@ -21,7 +21,7 @@ use Rattle.mount_model.specs.PlainMount.{HandleList}
 use Rattle.mount_model.specs.OpenHandles.{has_handle}
 use Rattle.mount_state.specs.CachedNames.{NamesForget, is_dir_body, is_dir_node, is_dir_on_disk}
 use Rattle.mount_state.specs.Contexts.{context_on_disk}
-use Rattle.mount_state.specs.Held.{is_unlocked_under}
+use Rattle.mount_state.specs.KeyUse.{is_unlocked_under}
 use Rattle.mount_state.proofs.CachedLemmas.{forget_when}
 use Rattle.mount_names.proofs.DiskRules.{Leaves, leaves_context, read_dropped, read_moved, read_made}
 use Rattle.mount_names.proofs.EditLemmas.{read_changed, read_removed}
@@ -72,15 +72,15 @@ module _ (disk : Disk) (claims : ClaimSet) (names : NameList) (live : HandleList
 
   -- ---- a node comes
 
-  pub made_names : (next : ℕ) → get disk next ≡ None → (w : StoredNode) (d : ℕ) (name : List ℕ) → NamesForget (entered (insert disk next w) d name next) claims names live
-  made_names next lacks w d name = alike (entered (insert disk next w) d name next) (λ pair held.
+  pub made_names : (next : ℕ) → get disk next ≡ None → (w : StoredNode) (d : ℕ) (name : List ℕ) → NamesForget (with_entry_and_name (insert disk next w) d name next) claims names live
+  made_names next lacks w d name = alike (with_entry_and_name (insert disk next w) d name next) (λ pair held.
       let differ : (pair.0.dir ≢ next) = λ same. true≢false (sym (rule.there pair held) ∙ ap is_dir_node (ap (get disk) same ∙ lacks)) in
       (read_made is_dir_node leaves_dir disk next w d name pair.0.dir differ, read_made context_on_disk leaves_context disk next w d name pair.0.dir differ))
 
   -- ---- a name goes, and a node
 
-  pub dropped_names : (d : ℕ) (name : List ℕ) (x : ℕ) → NamesForget (dropped disk d name x) claims names live
-  dropped_names d name x = alike (dropped disk d name x) (λ pair _.
+  pub dropped_names : (d : ℕ) (name : List ℕ) (x : ℕ) → NamesForget (without_entry_and_name disk d name x) claims names live
+  dropped_names d name x = alike (without_entry_and_name disk d name x) (λ pair _.
       (read_dropped is_dir_node leaves_dir disk d name x pair.0.dir, read_dropped context_on_disk leaves_context disk d name x pair.0.dir))
 
   pub gone_names : (x : ℕ) → HoldsNoneIn names x → NamesForget (remove disk x) claims names live
@@ -90,8 +90,8 @@ module _ (disk : Disk) (claims : ClaimSet) (names : NameList) (live : HandleList
 
   -- ---- a name moves
 
-  pub moved_names : (d : ℕ) (name : List ℕ) (to : ℕ) (new_name : List ℕ) (x : ℕ) → NamesForget (moved disk d name to new_name x) claims names live
-  moved_names d name to new_name x = alike (moved disk d name to new_name x) (λ pair _.
+  pub moved_names : (d : ℕ) (name : List ℕ) (to : ℕ) (new_name : List ℕ) (x : ℕ) → NamesForget (with_moved_entry disk d name to new_name x) claims names live
+  moved_names d name to new_name x = alike (with_moved_entry disk d name to new_name x) (λ pair _.
       (read_moved is_dir_node leaves_dir disk d name to new_name x pair.0.dir, read_moved context_on_disk leaves_context disk d name to new_name x pair.0.dir))
 
   -- ---- a directory gets a policy of a key that is present

@@ -10,24 +10,24 @@ use Rattle.std.specs.Map.{lookup}
 use Rattle.std.specs.Str.{bytes_eq}
 use Rattle.plain_tree.specs.Nodes.{Name, Node, Nodes}
 use Rattle.plain_tree.specs.NodesByNumber.{children, children_in, context_at, is_dir_at, entry}
-use Rattle.plain_tree.specs.Changes.{name_put, name_taken, dropped, gone, moved, made}
+use Rattle.plain_tree.specs.Changes.{with_name, without_entry_name, dropped, without_node, moved, with_new_node}
 use Rattle.plain_tree.specs.BodyChanges.{without_child}
 use Rattle.plain_tree.proofs.EditLemmas.{edit_dir, put_apart, put_kept, taken_apart}
 use Rattle.plain_tree.proofs.DroppedLemmas.{dropped_entry}
 use Rattle.mount_model.specs.PlainMount.{PlainMount}
 use Rattle.mount_model.specs.Sealed.{texts}
-use Rattle.mount_model.specs.States.{is_keyed, shown, shown_under}
-use Rattle.mount_model.specs.Walk.{found}
-use Rattle.mount_state.specs.CachedNames.{NamesStand}
-use Rattle.mount_state.specs.StandsFor.{StandsFor}
+use Rattle.mount_model.specs.States.{is_keyed, shown, visible_name_under}
+use Rattle.mount_model.specs.Walk.{visible_entry}
+use Rattle.mount_state.specs.CachedNames.{RepresentsNames}
+use Rattle.mount_state.specs.Represents.{Represents}
 use Rattle.mount_state.specs.declared.state.MountState.{MountState}
 use Rattle.mount_state.proofs.StandLemmas.{keyed_stands}
-use Rattle.mount_names.specs.Removed.{IsFoundBy}
+use Rattle.mount_names.specs.Removals.{IsFoundBy}
 use Rattle.mount_names.proofs.EditLemmas.{read_inserted, read_removed}
 
 -- ---- a name goes that was forgotten
 
-module _ (s : MountState) (m : PlainMount) (st : StandsFor s m) (d : ℕ) (name part : Name) (by_part : IsFoundBy m d part name)
+module _ (s : MountState) (m : PlainMount) (st : Represents s m) (d : ℕ) (name part : Name) (by_part : IsFoundBy m d part name)
     (names : NameList) (fewer : HoldsNoMore s.names names) (none : HoldsNone names d part) where
   -- a cached name is another one: of a locked directory none is cached
   other : (pair : Pair) → Contains names.pairs pair → pair.0.dir ≡ d → (pair.0.name ≢ name)
@@ -38,16 +38,16 @@ module _ (s : MountState) (m : PlainMount) (st : StandsFor s m) (d : ℕ) (name 
       let key_is : key_of d part ≡ pair.0 = λ i. record { dir = sym same i; name = (part_is ∙ sym is) i } in
       true≢false (sym (cache.itself d part) ∙ (ap (is_name d part) key_is ∙ none pair held))
 
-  pub names_taken : NamesStand names (name_taken m.nodes d name)
+  pub names_taken : RepresentsNames names (without_entry_name m.nodes d name)
   names_taken = record {
     entries = λ pair held. taken_apart m.nodes d name pair.0.dir pair.0.name (other pair held) ∙ st.names.entries pair (fewer pair held);
   }
 
-  pub names_dropped : (x : ℕ) → NamesStand names (dropped m.nodes d name x)
+  pub names_dropped : (x : ℕ) → RepresentsNames names (dropped m.nodes d name x)
   names_dropped x = record { entries = λ pair held. dropped_entry m.nodes d name x pair.0.dir pair.0.name ∙ names_taken.entries pair held }
 
   -- with its node
-  pub names_gone : (x : ℕ) → HoldsNoneIn names x → NamesStand names (gone (dropped m.nodes d name x) x)
+  pub names_gone : (x : ℕ) → HoldsNoneIn names x → RepresentsNames names (without_node (dropped m.nodes d name x) x)
   names_gone x lacks = record {
     entries = λ pair held.
         ap (lookup (bytes_eq pair.0.name)) (read_removed children_in (dropped m.nodes d name x) x pair.0.dir
@@ -57,10 +57,10 @@ module _ (s : MountState) (m : PlainMount) (st : StandsFor s m) (d : ℕ) (name 
 
   -- or to another place
   pub names_moved : (to : ℕ) (new_name : Name) (x : ℕ) → is_dir_at m.nodes to ≡ true → is_some (entry m.nodes to new_name) ≡ false
-      → NamesStand names (moved m.nodes d name to new_name x)
+      → RepresentsNames names (moved m.nodes d name to new_name x)
   names_moved to new_name x dir free = record {
     entries = λ pair held.
-        put_apart (name_taken m.nodes d name) to new_name x (edit_dir m.nodes d (without_child name) to ∙ dir) pair.0.dir pair.0.name
+        put_apart (without_entry_name m.nodes d name) to new_name x (edit_dir m.nodes d (without_child name) to ∙ dir) pair.0.dir pair.0.name
         (λ same is. true≢false (sym (ap is_some (sym (ap (λ n. entry m.nodes n new_name) same) ∙ (sym (ap (entry m.nodes pair.0.dir) is) ∙ st.names.entries pair (fewer pair held)))) ∙ free))
         ∙ names_taken.entries pair held;
   }
@@ -72,20 +72,20 @@ none_of None free = refl
 none_of (Some x) bad = absurd (true≢false bad)
 
 pub names_made : (names : NameList) (nodes : Nodes) (d : ℕ) (name : Name) (next : ℕ) (v : Node) → is_dir_at nodes d ≡ true → is_some (entry nodes d name) ≡ false
-    → ((pair : Pair) → Contains names.pairs pair → (pair.0.dir ≢ next)) → NamesStand names nodes → NamesStand names (made nodes d name next v)
+    → ((pair : Pair) → Contains names.pairs pair → (pair.0.dir ≢ next)) → RepresentsNames names nodes → RepresentsNames names (with_new_node nodes d name next v)
 names_made names nodes d name next v dir free elsewhere stand = record {
   entries = λ pair held.
-      ap (lookup (bytes_eq pair.0.name)) (read_inserted children_in (name_put nodes d name next) next v pair.0.dir (elsewhere pair held))
+      ap (lookup (bytes_eq pair.0.name)) (read_inserted children_in (with_name nodes d name next) next v pair.0.dir (elsewhere pair held))
       ∙ put_kept nodes d name next dir (none_of (entry nodes d name) free) pair.0.dir pair.0.name pair.1 (stand.entries pair held);
 }
 
 -- ---- the part by which a name is found
 
-pub found_by : (m : PlainMount) (d : ℕ) (part name : Name) (x : ℕ) → found m d part ≡ Some (name, x) → IsFoundBy m d part name
+pub found_by : (m : PlainMount) (d : ℕ) (part name : Name) (x : ℕ) → visible_entry m d part ≡ Some (name, x) → IsFoundBy m d part name
 found_by m d part name x is = λ keyed.
     let passes = (cache.Contains-lookup_entry (λ n. bytes_eq part (shown m d n)) (children m.nodes d) (name, x) is).1 in
     (bytes_eq-Decides part (shown m d name)).0 passes ∙ shown_keyed (context_at m.nodes d) keyed
   where
-    shown_keyed : (o : Option Context) → is_keyed m d ≡ true → shown_under m d name o ≡ name
+    shown_keyed : (o : Option Context) → is_keyed m d ≡ true → visible_name_under m d name o ≡ name
     shown_keyed None is = refl
     shown_keyed (Some c) is = ap (λ b. cond b name (texts m.raws d c name)) is

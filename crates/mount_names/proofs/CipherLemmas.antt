@@ -16,11 +16,11 @@ use Rattle.mount_model.specs.OpenAnswers.{is_link_at}
 use Rattle.mount_model.specs.States.{is_keyed, is_keyed_under}
 use Rattle.mount_model.specs.SoundHandles.{HasHandles}
 use Rattle.mount_model.proofs.NodeParts.{link_in}
-use Rattle.mount_state.specs.NamesKey.{drawn_key, key_from}
-use Rattle.mount_state.specs.StandsFor.{KeysStand}
+use Rattle.mount_state.specs.NamesKey.{derived_file_key, key_from}
+use Rattle.mount_state.specs.Represents.{RepresentsKeys}
 use Rattle.mount_state.specs.CachedKeys.{plain_kind}
 use Rattle.mount_state.proofs.KeyedLemmas.{drawn_is}
-use Rattle.mount_names.specs.Shown.{HasNames}
+use Rattle.mount_names.specs.VisibleNames.{HasNames}
 use Rattle.mount_names.specs.NameCiphers.{cipher_with, names_cipher}
 
 -- ---- a symlink is never open
@@ -53,20 +53,20 @@ module _ (m : PlainMount) (n : ℕ) (c : Context) (here : context_at m.nodes n �
 
   -- ---- a derived key
 
-  module _ (ring : Holding) (stands : KeysStand ring m) where
-    pub secret_there : HoldsClaimedSecrets ring → is_present m.claims c.policy.id ≡ true → drawn_key ring c ≡ None → ⊥
+  module _ (ring : Holding) (represents : RepresentsKeys ring m) where
+    pub secret_there : HoldsClaimedSecrets ring → is_present m.claims c.policy.id ≡ true → derived_file_key ring c ≡ None → ⊥
     secret_there secrets present undrawn =
-        from_secret (secret_of ring c.policy.id) (secrets c.policy.id ∙ (ap (λ cs. is_present cs c.policy.id) stands.claims ∙ present)) undrawn
+        from_secret (secret_of ring c.policy.id) (secrets c.policy.id ∙ (ap (λ cs. is_present cs c.policy.id) represents.claims ∙ present)) undrawn
       where
         from_secret : (o : Option (List ℕ)) → is_some o ≡ true → option_map (key_from c) o ≡ None → ⊥
         from_secret None bad none = true≢false (sym bad)
         from_secret (Some raw) there none = let bad : Some (key_from c raw) ≡ None = none in absurd (cc)
 
-    pub drawn_cipher_is : (cipher : Option NameCipher) → cipher ≡ option_map (cipher_with n c) (drawn_key ring c) → (drawn_key ring c ≡ None → ⊥) → cipher ≡ Some (names_cipher m.raws n c)
-    drawn_cipher_is cipher is some = by_case (drawn_key ring c) refl
+    pub drawn_cipher_is : (cipher : Option NameCipher) → cipher ≡ option_map (cipher_with n c) (derived_file_key ring c) → (derived_file_key ring c ≡ None → ⊥) → cipher ≡ Some (names_cipher m.raws n c)
+    drawn_cipher_is cipher is some = by_case (derived_file_key ring c) refl
       where
-        by_case : (o : Option FileKey) → drawn_key ring c ≡ o → cipher ≡ Some (names_cipher m.raws n c)
+        by_case : (o : Option FileKey) → derived_file_key ring c ≡ o → cipher ≡ Some (names_cipher m.raws n c)
         by_case None none = absurd (some none)
         by_case (Some key) there =
             is ∙ ap (option_map (cipher_with n c)) there
-            ∙ ap (λ (k : FileKey). Some (cipher_with n c k)) (drawn_is m n c here ring stands key there)
+            ∙ ap (λ (k : FileKey). Some (cipher_with n c k)) (drawn_is m n c here ring represents key there)

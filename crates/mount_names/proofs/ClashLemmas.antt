@@ -7,7 +7,7 @@ use Rattle.byte_words.specs.Bytes.{AreBytes}
 use Rattle.policy_ctx.specs.declared.policy.Context.{Context}
 use Rattle.fsc_keys.specs.Keys.{key_bytes}
 use Rattle.fsc_keys.specs.declared.file_keys.KeyKind.TheVariants.{Names}
-use Rattle.name_crypt.specs.declared.limits.TheConstants.{MOST_SPELLED_BYTES}
+use Rattle.name_crypt.specs.declared.limits.TheConstants.{MAX_SPELLED_BYTES}
 use Rattle.name_crypt.specs.Laws.{NamesStayDistinct, StoredNamesFit, StoredNamesAreBytes, ShortTextsStayDistinct, LongTextsAreOthers}
 use Rattle.name_crypt.specs.Plain.{IsPlain, IsStored}
 use Rattle.name_crypt.specs.NoKeyText.{nokey_text_of}
@@ -22,9 +22,9 @@ use Rattle.mount_model.specs.Sealed.{node_key, node_start, sealed_name, texts}
 use Rattle.mount_model.specs.EncryptedNames.{clashes, has_text_of}
 use Rattle.mount_model.specs.WellFormed.{IsWellFormed}
 use Rattle.mount_model.specs.SoundNodes.{IsName}
-use Rattle.mount_state.specs.Led.{is_stored, is_text_of}
+use Rattle.mount_state.specs.Resolution.{is_stored, is_text_of}
 use Rattle.mount_state.specs.Stored.{stored_form}
-use Rattle.mount_state.specs.StandsFor.{TreeStands}
+use Rattle.mount_state.specs.Represents.{RepresentsTree}
 use Rattle.mount_state.proofs.EntryLemmas.{children_stand, name_there}
 use Rattle.mount_names.specs.NewPlaces.{HasByteKey}
 
@@ -52,7 +52,7 @@ not_same a b differ = elim (cases_Bool (bytes_eq a b)) [
 name_plain : (name : Name) → IsName name → IsPlain name
 name_plain name is = (is.0.size.0, is.1, is.0.nul)
 
-module _ (disk : Disk) (next : ℕ) (m : PlainMount) (well : IsWellFormed m) (tree : TreeStands disk next m) (d : ℕ) (name : Name) (plain : IsPlain name) (bytes : AreBytes name) where
+module _ (disk : Disk) (next : ℕ) (m : PlainMount) (well : IsWellFormed m) (tree : RepresentsTree disk next m) (d : ℕ) (name : Name) (plain : IsPlain name) (bytes : AreBytes name) where
   -- without policy nothing clashes
   module _ (c : Context) (here : context_at m.nodes d ≡ Some c) (fits : StoredNamesFit) where
     abbrev sealed : Name → List ℕ
@@ -104,13 +104,13 @@ module _ (disk : Disk) (next : ℕ) (m : PlainMount) (well : IsWellFormed m) (tr
       unfolding sealed_name
       one_name n is are same = distinct (key_bytes (node_key m.raws c Names)) (node_start d c) name n c.policy.pad (key c here) bytes are plain is same
 
-      one_seal : (n : Name) → IsPlain n → AreBytes n → length (sealed name) ≤ MOST_SPELLED_BYTES → nokey_text_of (sealed name) ≡ nokey_text_of (sealed n) → sealed name ≡ sealed n
-      one_seal n is are small same = elim (cases_lt MOST_SPELLED_BYTES (length (sealed n))) [
+      one_seal : (n : Name) → IsPlain n → AreBytes n → length (sealed name) ≤ MAX_SPELLED_BYTES → nokey_text_of (sealed name) ≡ nokey_text_of (sealed n) → sealed name ≡ sealed n
+      one_seal n is are small same = elim (cases_lt MAX_SPELLED_BYTES (length (sealed n))) [
         | inl more ↦ absurd (long (sealed name) (sealed n) small more same)
         | inr few ↦ short (sealed name) (sealed n) (seal_bytes name plain bytes) (seal_bytes n is are) small few same
       ]
 
-      pub short_apart : (stored : List ℕ) → stored ≡ stored_form m.raws d (context_at m.nodes d) name → length stored ≤ MOST_SPELLED_BYTES
+      pub short_apart : (stored : List ℕ) → stored ≡ stored_form m.raws d (context_at m.nodes d) name → length stored ≤ MAX_SPELLED_BYTES
           → is_some (entry m.nodes d name) ≡ false → clashes m d name ≡ false
       short_apart stored is small free =
           clash_is
@@ -118,6 +118,6 @@ module _ (disk : Disk) (next : ℕ) (m : PlainMount) (well : IsWellFormed m) (tr
           not_same (texts m.raws d c name) (texts m.raws d c n) (λ same.
           let one = name_there disk next m well tree d n there in
           let seal : stored ≡ sealed name = is ∙ ap (λ o. stored_form m.raws d o name) here in
-          let alike = one_seal n (name_plain n one) one.0.bytes (subst (λ x. length x ≤ MOST_SPELLED_BYTES) seal small) (sym (text_is name) ∙ same ∙ text_is n) in
+          let alike = one_seal n (name_plain n one) one.0.bytes (subst (λ x. length x ≤ MAX_SPELLED_BYTES) seal small) (sym (text_is name) ∙ same ∙ text_is n) in
           let this = one_name n (name_plain n one) one.0.bytes alike in
           true≢false (sym there ∙ (ap (λ x. is_some (entry m.nodes d x)) (sym this) ∙ free))))

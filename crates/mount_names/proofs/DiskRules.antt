@@ -5,10 +5,10 @@ use Rattle.number_map.specs.Numbered.{get, insert, remove, changed}
 use Rattle.number_map.proofs.NumberedLemmas.{remove_here}
 use Rattle.user_claims.specs.Claims.{ClaimSet}
 use Rattle.key_ring.specs.Modes.{Modes}
-use Rattle.inode_refs.specs.Cached.{Cache, key_at}
+use Rattle.inode_refs.specs.CacheMaps.{Cache, key_at}
 use Rattle.inode_refs.specs.declared.node_key.NodeKey.{NodeKey}
 use Rattle.disk_tree.specs.DiskTree.{Disk}
-use Rattle.disk_tree.specs.EntryChanges.{entered, dropped, moved}
+use Rattle.disk_tree.specs.EntryChanges.{with_entry_and_name, without_entry_and_name, with_moved_entry}
 use Rattle.disk_tree.specs.Entries.{Entries, with_entry, without_entry}
 use Rattle.disk_tree.specs.Nodes.{on_body, with_entries, named_as}
 use Rattle.disk_tree.specs.declared.node.StoredNode.{StoredNode}
@@ -50,19 +50,19 @@ module _ {A : Type 0} (read : Option StoredNode → A) (leaves : Leaves read) (d
   read_edited : (d : ℕ) (g : Entries → Entries) (n : ℕ) → read (get (changed disk d (on_body (with_entries g))) n) ≡ read (get disk n)
   read_edited d g = read_changed read disk d (on_body (with_entries g)) (leaves.entries g)
 
-  pub read_dropped : (d : ℕ) (name : List ℕ) (x n : ℕ) → read (get (dropped disk d name x) n) ≡ read (get disk n)
+  pub read_dropped : (d : ℕ) (name : List ℕ) (x n : ℕ) → read (get (without_entry_and_name disk d name x) n) ≡ read (get disk n)
   read_dropped d name x n =
       read_changed read (changed disk d (on_body (with_entries (without_entry name)))) x (named_as false) (leaves.named false) n
       ∙ read_edited d (without_entry name) n
 
 pub read_moved : {A : Type 0} (read : Option StoredNode → A) (leaves : Leaves read) (disk : Disk) (d : ℕ) (name : List ℕ) (to : ℕ) (new_name : List ℕ) (x n : ℕ)
-    → read (get (moved disk d name to new_name x) n) ≡ read (get disk n)
+    → read (get (with_moved_entry disk d name to new_name x) n) ≡ read (get disk n)
 read_moved read leaves disk d name to new_name x n =
     read_edited read leaves (changed disk d (on_body (with_entries (without_entry name)))) to (with_entry new_name x) n
     ∙ read_edited read leaves disk d (without_entry name) n
 
 pub read_made : {A : Type 0} (read : Option StoredNode → A) (leaves : Leaves read) (disk : Disk) (next : ℕ) (w : StoredNode) (d : ℕ) (name : List ℕ) (n : ℕ) → (n ≢ next)
-    → read (get (entered (insert disk next w) d name next) n) ≡ read (get disk n)
+    → read (get (with_entry_and_name (insert disk next w) d name next) n) ≡ read (get disk n)
 read_made read leaves disk next w d name n differ =
     read_changed read (changed (insert disk next w) d (on_body (with_entries (with_entry name next)))) next (named_as true) (leaves.named true) n
     ∙ read_edited read leaves (insert disk next w) d (with_entry name next) n
@@ -91,14 +91,14 @@ module _ (disk : Disk) (next : ℕ) (claims : ClaimSet) (cache : Cache) (modes :
       by_key (Some key) is _ = true≢false (sym (rule.file_keys.named n key is) ∙ ap (λ o. has_own key.id (context_on_disk o)) (ap (get disk) same ∙ lacks))
 
   module _ (w : StoredNode) (d : ℕ) (name : List ℕ) where
-    pub made_rule : Forgets (entered (insert disk next w) d name next) claims cache modes live
-    made_rule = rule_alike disk (entered (insert disk next w) d name next) claims cache modes live
+    pub made_rule : Forgets (with_entry_and_name (insert disk next w) d name next) claims cache modes live
+    made_rule = rule_alike disk (with_entry_and_name (insert disk next w) d name next) claims cache modes live
         (record {
           contexts = λ n held. read_made context_on_disk leaves_context disk next w d name n (unheld next none_at_next n held);
           kinds = λ n held. read_made kind_on_disk leaves_kind disk next w d name n (unheld next none_at_next n held);
         }) rule
 
-    pub made_safe : IsSafe (entered (insert disk next w) d name next) (next + 1) live
+    pub made_safe : IsSafe (with_entry_and_name (insert disk next w) d name next) (next + 1) live
     made_safe = record {
       below = λ n is. elim (cases_eq n next) [
         | inl same ↦ omega arith
@@ -112,14 +112,14 @@ module _ (disk : Disk) (next : ℕ) (claims : ClaimSet) (cache : Cache) (modes :
 
   -- ---- a name goes
 
-  pub dropped_rule : (d : ℕ) (name : List ℕ) (x : ℕ) → Forgets (dropped disk d name x) claims cache modes live
-  dropped_rule d name x = rule_alike disk (dropped disk d name x) claims cache modes live
+  pub dropped_rule : (d : ℕ) (name : List ℕ) (x : ℕ) → Forgets (without_entry_and_name disk d name x) claims cache modes live
+  dropped_rule d name x = rule_alike disk (without_entry_and_name disk d name x) claims cache modes live
       (record {
         contexts = λ n _. read_dropped context_on_disk leaves_context disk d name x n;
         kinds = λ n _. read_dropped kind_on_disk leaves_kind disk d name x n;
       }) rule
 
-  pub dropped_safe : (d : ℕ) (name : List ℕ) (x : ℕ) → IsSafe (dropped disk d name x) next live
+  pub dropped_safe : (d : ℕ) (name : List ℕ) (x : ℕ) → IsSafe (without_entry_and_name disk d name x) next live
   dropped_safe d name x = record {
     below = λ n is. safe.below n (sym (read_dropped there leaves_there disk d name x n) ∙ is);
     there = λ n held. read_dropped there leaves_there disk d name x n ∙ safe.there n held;
@@ -127,14 +127,14 @@ module _ (disk : Disk) (next : ℕ) (claims : ClaimSet) (cache : Cache) (modes :
 
   -- ---- a name moves
 
-  pub moved_rule : (d : ℕ) (name : List ℕ) (to : ℕ) (new_name : List ℕ) (x : ℕ) → Forgets (moved disk d name to new_name x) claims cache modes live
-  moved_rule d name to new_name x = rule_alike disk (moved disk d name to new_name x) claims cache modes live
+  pub moved_rule : (d : ℕ) (name : List ℕ) (to : ℕ) (new_name : List ℕ) (x : ℕ) → Forgets (with_moved_entry disk d name to new_name x) claims cache modes live
+  moved_rule d name to new_name x = rule_alike disk (with_moved_entry disk d name to new_name x) claims cache modes live
       (record {
         contexts = λ n _. read_moved context_on_disk leaves_context disk d name to new_name x n;
         kinds = λ n _. read_moved kind_on_disk leaves_kind disk d name to new_name x n;
       }) rule
 
-  pub moved_safe : (d : ℕ) (name : List ℕ) (to : ℕ) (new_name : List ℕ) (x : ℕ) → IsSafe (moved disk d name to new_name x) next live
+  pub moved_safe : (d : ℕ) (name : List ℕ) (to : ℕ) (new_name : List ℕ) (x : ℕ) → IsSafe (with_moved_entry disk d name to new_name x) next live
   moved_safe d name to new_name x = record {
     below = λ n is. safe.below n (sym (read_moved there leaves_there disk d name to new_name x n) ∙ is);
     there = λ n held. read_moved there leaves_there disk d name to new_name x n ∙ safe.there n held;

@@ -1,10 +1,10 @@
 -- What is read of a map by number is the same after each edit that doesn't change it.
 use Rattle.std.proofs.Common.{◌≡◌, ◌≢◌, ℕ, Option, Some, None, option_map, inl, inr, refl, sym, ap, ◌∙◌}
 use Rattle.std.proofs.lemmas.Bool.{cases_eq}
-use Rattle.number_map.specs.Numbered.{Numbered, get, insert, remove, changed}
+use Rattle.number_map.specs.Numbered.{NumberedValues, get, insert, remove, changed}
 use Rattle.number_map.proofs.NumberedLemmas.{insert_other, remove_other, changed_here, changed_other}
 
-module _ {V A : Type 0} (read : Option V → A) (nodes : Numbered V) where
+module _ {V A : Type 0} (read : Option V → A) (nodes : NumberedValues V) where
   by_case : (f : V → V) (o : Option V) → ((v : V) → read (Some (f v)) ≡ read (Some v)) → read (option_map f o) ≡ read o
   by_case f None same = refl
   by_case f (Some v) same = same v

@@ -6,7 +6,7 @@ use Rattle.std.proofs.lemmas.List.Sums.{sum_by-cons}
 use Rattle.number_map.specs.Numbered.{get}
 use Rattle.user_claims.specs.Claims.{ClaimSet}
 use Rattle.key_ring.specs.Modes.{Modes}
-use Rattle.inode_refs.specs.Cached.{Cache, key_at}
+use Rattle.inode_refs.specs.CacheMaps.{Cache, key_at}
 use Rattle.inode_refs.specs.declared.node_key.NodeKey.{NodeKey}
 use Rattle.disk_tree.specs.DiskTree.{Disk}
 use Rattle.plain_tree.specs.Nodes.{Nodes}
@@ -19,7 +19,7 @@ use Rattle.mount_state.specs.Contexts.{context_on_disk, has_own, has_shared, use
 use Rattle.mount_state.specs.StoredKinds.{kind_on_disk, same_kind, is_of_kind}
 use Rattle.mount_state.specs.Discipline.{Forgets}
 use Rattle.mount_state.specs.Handles.{users}
-use Rattle.mount_state.specs.CachedKeys.{CachesStand, plain_kind}
+use Rattle.mount_state.specs.CachedKeys.{RepresentsCaches, plain_kind}
 
 -- ---- users of nodes that have handles
 
@@ -83,7 +83,7 @@ pub record CachedAlike (cache : Cache) (old new : Nodes) : Type 0 where
   pub kinds : (n : ℕ) (key : NodeKey) → key_at cache n ≡ Some key → plain_kind (get new n) ≡ plain_kind (get old n)
 
 pub caches_alike : (cache : Cache) (modes : Modes) (m : PlainMount) (new : Nodes) (next : ℕ) → CachedAlike cache m.nodes new
-    → CachesStand cache modes m → CachesStand cache modes (record m { nodes = new; next = next })
+    → RepresentsCaches cache modes m → RepresentsCaches cache modes (record m { nodes = new; next = next })
 caches_alike cache modes m new next alike stand = record {
   file_keys = λ n key c there under.
       stand.file_keys n key c there (sym (alike.contexts n key there) ∙ under)
@@ -93,7 +93,7 @@ caches_alike cache modes m new next alike stand = record {
 
 -- fewer cached keys
 pub fewer_stand : (old new : Cache) (modes : Modes) (m : PlainMount) → ((n : ℕ) (key : NodeKey) → key_at new n ≡ Some key → key_at old n ≡ Some key)
-    → CachesStand old modes m → CachesStand new modes m
+    → RepresentsCaches old modes m → RepresentsCaches new modes m
 fewer_stand old new modes m fewer stand = record {
   file_keys = λ n key c there. stand.file_keys n key c (fewer n key there);
   mode_keys = stand.mode_keys;

@@ -4,7 +4,7 @@ use Rattle.std.proofs.Common.{◌≡◌, ℕ, suc, Bool, true, false, cond, ◌&
 use Rattle.std.specs.Ordering.{nat_cmp, eq_by_cmp, is_lt}
 use Rattle.std.specs.FinMap.{get-entries, entries_sorted, from_sorted, get-from_sorted, len-entries}
 use Rattle.std.specs.FinMap.Entries.{find, is_sorted, below_all}
-use Rattle.number_map.specs.Numbered.{Numbered, get, entries, len}
+use Rattle.number_map.specs.Numbered.{NumberedValues, get, entries, len}
 use Rattle.number_map.proofs.AgreementLemmas.{agree_entries}
 use Rattle.plain_tree.specs.Facts.{AgreesBy}
 use Rattle.plain_tree.specs.NodesByNumber.{children, context_at}
@@ -12,7 +12,7 @@ use Rattle.disk_tree.specs.DiskTree.{Disk, children as stored_entries}
 use Rattle.mount_model.specs.PlainMount.{PlainMount}
 use Rattle.mount_model.specs.WellFormed.{IsWellFormed}
 use Rattle.mount_state.specs.Stored.{stored_form, stored_node}
-use Rattle.mount_state.specs.StandsFor.{TreeStands}
+use Rattle.mount_state.specs.Represents.{RepresentsTree}
 use Rattle.mount_state.proofs.EntryLemmas.{children_stand}
 
 abbrev zeroed : {X : Type 0} → ℕ × X → ℕ × ℕ
@@ -43,10 +43,10 @@ module _ {V : Type 0} where
   find_blank q (e ∷ es) =
       ap (cond (eq_by_cmp nat_cmp q e.0) (Some 0)) (find_blank q es) ∙ by_test (eq_by_cmp nat_cmp q e.0) e.1 (find nat_cmp q es)
 
-  abbrev blank_map : Numbered V → Numbered ℕ
+  abbrev blank_map : NumberedValues V → NumberedValues ℕ
   blank_map m = from_sorted (blank (entries m))
 
-  blank_get : (m : Numbered V) (q : ℕ) → get (blank_map m) q ≡ option_map zero_of (get m q)
+  blank_get : (m : NumberedValues V) (q : ℕ) → get (blank_map m) q ≡ option_map zero_of (get m q)
   blank_get m q =
       get-from_sorted nat_cmp (blank (entries m)) q (subst T (sym (sorted_blank (entries m))) (entries_sorted m))
       ∙ find_blank q (entries m) ∙ ap (option_map zero_of) (sym (get-entries m q))
@@ -55,7 +55,7 @@ length_mapped : {A B : Type 0} (f : A → B) (xs : List A) → length (map f xs)
 length_mapped f [] = refl
 length_mapped f (x ∷ xs) = ap (λ n. suc n) (length_mapped f xs)
 
-module _ {V W : Type 0} (f : ℕ → V → W) (plain : Numbered V) (stored : Numbered W) (agree : AgreesBy f plain stored) where
+module _ {V W : Type 0} (f : ℕ → V → W) (plain : NumberedValues V) (stored : NumberedValues W) (agree : AgreesBy f plain stored) where
   twice : (q : ℕ) (o : Option V) → option_map (zero_of {V = W}) (option_map (f q) o) ≡ option_map (zero_of {V = V}) o
   twice q None = refl
   twice q (Some v) = refl
@@ -70,7 +70,7 @@ module _ {V W : Type 0} (f : ℕ → V → W) (plain : Numbered V) (stored : Num
       len-entries stored ∙ (sym second ∙ (same ∙ (first ∙ sym (len-entries plain))))
 
 -- a directory has as many entries on the disk as in the mount, and there are as many nodes
-module _ (disk : Disk) (next : ℕ) (m : PlainMount) (well : IsWellFormed m) (tree : TreeStands disk next m) where
+module _ (disk : Disk) (next : ℕ) (m : PlainMount) (well : IsWellFormed m) (tree : RepresentsTree disk next m) where
   pub entries_len : (d : ℕ) → length (stored_entries disk d) ≡ length (children m.nodes d)
   entries_len d = ap length (children_stand disk next m well tree d) ∙ length_mapped (λ e. (stored_form m.raws d (context_at m.nodes d) e.0, e.1)) (children m.nodes d)
 

@@ -10,14 +10,14 @@ use Rattle.plain_tree.specs.NodesByNumber.{context_in, context_at}
 use Rattle.mount_model.specs.PlainMount.{PlainMount}
 use Rattle.mount_model.specs.Carried.{IsPath, IsTarget}
 use Rattle.mount_model.specs.NameAnswers.{answer_to_make}
-use Rattle.mount_model.specs.NewNodes.{inherited}
+use Rattle.mount_model.specs.NewNodes.{inherited_context}
 use Rattle.mount_model.specs.EncryptedNames.{lacks_key}
 use Rattle.mount_model.specs.WellFormed.{IsWellFormed}
 use Rattle.mount_model.specs.Walk.{PathParts}
 use Rattle.mount_model.specs.declared.call.Op.TheVariants as op
 use Rattle.mount_model.proofs.WellSteps.{step_well}
-use Rattle.mount_state.specs.NamesKey.{drawn_key}
-use Rattle.mount_state.specs.StandsFor.{KeysStand}
+use Rattle.mount_state.specs.NamesKey.{derived_file_key}
+use Rattle.mount_state.specs.Represents.{RepresentsKeys}
 use Rattle.mount_names.specs.NameCiphers.{cipher_with, names_cipher}
 use Rattle.mount_names.proofs.CipherLemmas.{secret_there, drawn_cipher_is}
 
@@ -37,17 +37,17 @@ module _ (m : PlainMount) (n : ℕ) (c : Context) where
   link_has : context_at with_link.nodes n ≡ Some c
   link_has = ap context_in (insert_here m.nodes n link)
 
-  keys_stand : (ring : Holding) → KeysStand ring m → KeysStand ring with_link
+  keys_stand : (ring : Holding) → RepresentsKeys ring m → RepresentsKeys ring with_link
   keys_stand ring stand = record { claims = stand.claims; secrets = stand.secrets }
 
-  pub coming_cipher : (ring : Holding) → KeysStand ring m → HoldsClaimedSecrets ring → lacks_key m (Some c) ≡ false → (cipher : Option NameCipher)
-      → cipher ≡ option_map (cipher_with n c) (drawn_key ring c) → cipher ≡ Some (names_cipher m.raws n c)
+  pub coming_cipher : (ring : Holding) → RepresentsKeys ring m → HoldsClaimedSecrets ring → lacks_key m (Some c) ≡ false → (cipher : Option NameCipher)
+      → cipher ≡ option_map (cipher_with n c) (derived_file_key ring c) → cipher ≡ Some (names_cipher m.raws n c)
   coming_cipher ring stand secrets holds cipher is =
       drawn_cipher_is with_link n c link_has ring (keys_stand ring stand) cipher is
       (secret_there with_link n c link_has ring (keys_stand ring stand) secrets (present_then _ holds))
 
 -- the policy is that of the directory
-pub inherits_key : (m : PlainMount) (nonce : List ℕ) (o : Option Context) → lacks_key m (inherited nonce o) ≡ lacks_key m o
+pub inherits_key : (m : PlainMount) (nonce : List ℕ) (o : Option Context) → lacks_key m (inherited_context nonce o) ≡ lacks_key m o
 inherits_key m nonce None = refl
 inherits_key m nonce (Some c) = refl
 

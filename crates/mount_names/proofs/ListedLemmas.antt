@@ -24,17 +24,17 @@ use Rattle.mount_model.specs.ListAnswers.{put_in_order, in_order, page_of, page_
 use Rattle.mount_model.specs.declared.reply.Reply.{Reply}
 use Rattle.mount_model.specs.declared.reply.Refusal.TheVariants.{NotDir}
 use Rattle.mount_model.specs.PlainMount.{PlainMount}
-use Rattle.mount_model.specs.Answered.{Answer, refused, told}
+use Rattle.mount_model.specs.AnswerForms.{Answer, refusal_with, unchanged_with}
 use Rattle.mount_model.specs.States.{shown}
 use Rattle.mount_model.specs.WellFormed.{IsWellFormed}
 use Rattle.mount_state.specs.Stored.{stored_form}
-use Rattle.mount_state.specs.StandsFor.{TreeStands}
+use Rattle.mount_state.specs.Represents.{RepresentsTree}
 use Rattle.mount_state.proofs.OrderLemmas as orders
 use Rattle.mount_state.proofs.EntryLemmas.{children_stand, name_there}
 use Rattle.mount_names.specs.declared.reading.Reading.{Reading}
 use Rattle.mount_names.specs.declared.reading.Reading.TheVariants.{Plain}
-use Rattle.mount_names.specs.Shown.{ShowsAs}
-use Rattle.mount_names.specs.Listed.{TellsPage}
+use Rattle.mount_names.specs.VisibleNames.{ShowsAs}
+use Rattle.mount_names.specs.NamePages.{IsPageOf}
 use Rattle.mount_names.proofs.PlaceLemmas.{name_plain}
 
 -- ---- the order of names
@@ -123,22 +123,22 @@ stored_as_shown (e ∷ es) (n ∷ ns) shows =
 -- ---- what is returned of a directory
 
 pub page_leaves : (m : PlainMount) (start d : ℕ) → (page_at m start d).mount ≡ m
-page_leaves m start d = elim (is_dir_at m.nodes d) as (λ b. (let a : Answer = cond (not b) (refused m NotDir) (told m (page_of m d start)) in a.mount) ≡ m) [
+page_leaves m start d = elim (is_dir_at m.nodes d) as (λ b. (let a : Answer = cond (not b) (refusal_with m NotDir) (unchanged_with m (page_of m d start)) in a.mount) ≡ m) [
   | true ↦ refl
   | false ↦ refl
 ]
 
 module _ (m : PlainMount) (start d : ℕ) where
-  pub no_dir : is_dir_at m.nodes d ≡ false → page_at m start d ≡ refused m NotDir
-  no_dir is = ap (λ b. cond (not b) (refused m NotDir) (told m (page_of m d start))) is
+  pub no_dir : is_dir_at m.nodes d ≡ false → page_at m start d ≡ refusal_with m NotDir
+  no_dir is = ap (λ b. cond (not b) (refusal_with m NotDir) (unchanged_with m (page_of m d start))) is
 
-  pub at_dir : is_dir_at m.nodes d ≡ true → page_at m start d ≡ told m (page_of m d start)
-  at_dir is = ap (λ b. cond (not b) (refused m NotDir) (told m (page_of m d start))) is
+  pub at_dir : is_dir_at m.nodes d ≡ true → page_at m start d ≡ unchanged_with m (page_of m d start)
+  at_dir is = ap (λ b. cond (not b) (refusal_with m NotDir) (unchanged_with m (page_of m d start))) is
 
 -- a page of the directory's entries is the page that the mount answers
-pub page_is : (disk : Disk) (next : ℕ) (m : PlainMount) → IsWellFormed m → TreeStands disk next m → (d start : ℕ) (reading : Reading)
+pub page_is : (disk : Disk) (next : ℕ) (m : PlainMount) → IsWellFormed m → RepresentsTree disk next m → (d start : ℕ) (reading : Reading)
     → ((name : Name) → IsPlain name → AreBytes name → ShowsAs reading (stored_form m.raws d (context_at m.nodes d) name) (shown m d name))
-    → (reply : Reply) → TellsPage reading (stored_entries disk d) start reply → reply ≡ page_of m d start
+    → (reply : Reply) → IsPageOf reading (stored_entries disk d) start reply → reply ≡ page_of m d start
 page_is disk next m well tree d start reading reads reply tells =
     tells (map (λ e. shown m d e.0) (children m.nodes d))
     (subst (λ (es : Entries). AllZip (λ e. ShowsAs reading e.0) es (map (λ e. shown m d e.0) (children m.nodes d))) (sym (children_stand disk next m well tree d))

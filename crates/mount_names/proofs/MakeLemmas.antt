@@ -4,14 +4,14 @@ use Rattle.policy_ctx.specs.Context.{context_bytes}
 use Rattle.std.proofs.lemmas.Bool.{true≢false}
 use Rattle.number_map.specs.Numbered.{get, insert}
 use Rattle.number_map.proofs.NumberedLemmas.{insert_other}
-use Rattle.inode_refs.specs.Cached.{Cache}
+use Rattle.inode_refs.specs.CacheMaps.{Cache}
 use Rattle.plain_tree.specs.Nodes.{Name, Children, Body, Dir, File, Link, Node}
 use Rattle.plain_tree.specs.BodyChanges.{with_children, with_child}
 use Rattle.plain_tree.specs.NodesByNumber.{context_in}
-use Rattle.plain_tree.specs.Changes.{on_children, name_put, made}
+use Rattle.plain_tree.specs.Changes.{on_children, with_name, with_new_node}
 use Rattle.plain_tree.specs.Facts.{AgreesBy}
 use Rattle.disk_tree.specs.DiskTree.{Disk, IsDirAt, of_node}
-use Rattle.disk_tree.specs.EntryChanges.{entered}
+use Rattle.disk_tree.specs.EntryChanges.{with_entry_and_name}
 use Rattle.disk_tree.specs.Nodes.{IsDir}
 use Rattle.disk_tree.specs.declared.node.StoredNode.{StoredNode}
 use Rattle.disk_tree.specs.declared.node.Body.{Body as StoredBody}
@@ -19,33 +19,33 @@ use Rattle.key_ring.specs.Holding.{Holding, secret_of}
 use Rattle.key_ring.specs.Modes.{Modes}
 use Rattle.policy_ctx.specs.declared.policy.Context.{Context}
 use Rattle.dentry_cache.specs.Names.{Pair, NameList}
-use Rattle.mount_state.specs.CachedNames.{NamesStand, is_dir_node}
+use Rattle.mount_state.specs.CachedNames.{RepresentsNames, is_dir_node}
 use Rattle.mount_state.specs.Handles.{Handles}
 use Rattle.mount_model.specs.declared.reply.Reply.TheVariants.{Done}
 use Rattle.mount_model.specs.declared.reply.Reply.{Reply}
 use Rattle.mount_model.specs.PlainMount.{PlainMount}
-use Rattle.mount_model.specs.Answered.{Answer, done}
+use Rattle.mount_model.specs.AnswerForms.{Answer, done}
 use Rattle.mount_model.specs.Walk.{PathParts}
 use Rattle.mount_model.specs.EntryPaths.{last_part}
 use Rattle.mount_model.specs.WellFormed.{IsWellFormed}
 use Rattle.mount_model.specs.NameAnswers.{is_long_target, answer_to_make}
-use Rattle.mount_model.specs.NewNodes.{inherited, new_node, with_node}
+use Rattle.mount_model.specs.NewNodes.{inherited_context, new_node, with_node}
 use Rattle.mount_model.specs.Carried.{IsPath}
 use Rattle.mount_model.specs.declared.call.Op.TheVariants as op
 use Rattle.mount_model.proofs.WalkLemmas.{parent_ok}
 use Rattle.mount_model.proofs.WellSteps.{step_well}
 use Rattle.data_crypt.specs.Blocks.{Seal, stored_blocks, blocks_by, block_count}
 use Rattle.mount_state.specs.Stored.{stored_body, stored_node}
-use Rattle.mount_state.specs.StandsFor.{StandsFor}
-use Rattle.mount_state.specs.CachedKeys.{CachesStand, plain_kind_of, plain_kind}
+use Rattle.mount_state.specs.Represents.{Represents}
+use Rattle.mount_state.specs.CachedKeys.{RepresentsCaches, plain_kind_of, plain_kind}
 use Rattle.mount_state.specs.declared.state.MountState.{MountState}
 use Rattle.mount_names.specs.Places.{Place}
-use Rattle.mount_state.specs.Given.{IsGivenOrNoMemory, IsRefusedAsDue}
+use Rattle.mount_state.specs.AnswerOf.{IsAnswerOrNoMemory, IsExpectedRefusal}
 use Rattle.mount_names.specs.NewPlaces.{IsPlaceAt}
 use Rattle.mount_names.proofs.AgreeLemmas.{made_agrees}
 use Rattle.mount_names.proofs.CachedStands.{names_made}
 use Rattle.mount_names.proofs.DiskRules.{none_at_next, unheld}
-use Rattle.mount_names.proofs.GivenLemmas.{due_done, given_by}
+use Rattle.mount_names.proofs.GivenLemmas.{due_done, is_answer_by}
 use Rattle.mount_names.proofs.EditLemmas.{read_changed, read_inserted}
 use Rattle.mount_names.proofs.HeldLemmas.{IsHeld, by_key, caches_alike}
 use Rattle.mount_names.proofs.PlaceLemmas.{at_parent, not_refused}
@@ -63,7 +63,7 @@ kind_left g (Dir cs) = refl
 kind_left g (File contents) = refl
 kind_left g (Link target) = refl
 
-module _ (old : MountState) (m : PlainMount) (st : StandsFor old m) (path : PathParts) (place : Place) (at : IsPlaceAt m path place) (nonce : List ℕ) (body : Body) where
+module _ (old : MountState) (m : PlainMount) (st : Represents old m) (path : PathParts) (place : Place) (at : IsPlaceAt m path place) (nonce : List ℕ) (body : Body) where
   abbrev d : ℕ
   d = place.dir
 
@@ -99,28 +99,28 @@ module _ (old : MountState) (m : PlainMount) (st : StandsFor old m) (path : Path
       true≢false (sym (old.remembers.there pair held) ∙ ap is_dir_node (ap (get old.disk) (same ∙ sym st.tree.next) ∙ lacks))
 
   alike : {A : Type 0} (read : Option Node → A) → ((g : Children → Children) (v : Node) → read (Some (on_children g v)) ≡ read (Some v)) → (n : ℕ) → (n ≢ m.next)
-      → read (get (made m.nodes d name m.next fresh) n) ≡ read (get m.nodes n)
+      → read (get (with_new_node m.nodes d name m.next fresh) n) ≡ read (get m.nodes n)
   alike read leaves n differ =
-      read_inserted read (name_put m.nodes d name m.next) m.next fresh n differ
+      read_inserted read (with_name m.nodes d name m.next) m.next fresh n differ
       ∙ read_changed read m.nodes d (on_children (with_child name m.next)) (leaves (with_child name m.next)) n
 
-  pub made_node : (stored : StoredBody) → stored ≡ stored_body m.raws m.next (inherited nonce place.context) body → (w : StoredNode)
-      → w ≡ (record { context = option_map context_bytes (inherited nonce place.context); named = true; body = stored }) → w ≡ stored_node m.raws m.next fresh
+  pub made_node : (stored : StoredBody) → stored ≡ stored_body m.raws m.next (inherited_context nonce place.context) body → (w : StoredNode)
+      → w ≡ (record { context = option_map context_bytes (inherited_context nonce place.context); named = true; body = stored }) → w ≡ stored_node m.raws m.next fresh
   made_node stored is w w_is =
       w_is ∙ (λ i. record {
-        context = option_map context_bytes (inherited nonce (at.there.context i));
+        context = option_map context_bytes (inherited_context nonce (at.there.context i));
         named = true;
-        body = (is ∙ ap (λ (o : Option Context). stored_body m.raws m.next (inherited nonce o) body) at.there.context) i;
+        body = (is ∙ ap (λ (o : Option Context). stored_body m.raws m.next (inherited_context nonce o) body) at.there.context) i;
       })
 
-  pub made_stands : (new : MountState) (w : StoredNode) → new.disk ≡ entered (insert old.disk old.next_node w) place.dir place.stored old.next_node
+  pub made_stands : (new : MountState) (w : StoredNode) → new.disk ≡ with_entry_and_name (insert old.disk old.next_node w) place.dir place.stored old.next_node
       → new.next_node ≡ old.next_node + 1 → new.ring ≡ old.ring → new.meta ≡ old.meta → new.inodes ≡ old.inodes → new.handles ≡ old.handles → new.modes ≡ old.modes → new.names ≡ old.names
-      → w ≡ stored_node m.raws m.next fresh → IsWellFormed after → StandsFor new after
+      → w ≡ stored_node m.raws m.next fresh → IsWellFormed after → Represents new after
   made_stands new w disk next ring meta inodes handles modes names w_is well = record {
     well = well;
     tree = record {
-      nodes = subst (λ (x : Disk). AgreesBy (stored_node m.raws) (made m.nodes d name m.next fresh) x)
-          (sym (disk ∙ ap (λ n. entered (insert old.disk n w) place.dir place.stored n) st.tree.next))
+      nodes = subst (λ (x : Disk). AgreesBy (stored_node m.raws) (with_new_node m.nodes d name m.next fresh) x)
+          (sym (disk ∙ ap (λ n. with_entry_and_name (insert old.disk n w) place.dir place.stored n) st.tree.next))
           (made_agrees m.raws m.nodes old.disk st.tree.nodes d name m.next fresh new_number refl place.stored at.there.stored w w_is);
       next = next ∙ ap (λ n. n + 1) st.tree.next;
     };
@@ -129,22 +129,22 @@ module _ (old : MountState) (m : PlainMount) (st : StandsFor old m) (path : Path
       secrets = λ id raw is. st.keys.secrets id raw (ap (λ (r : Holding). secret_of r id) (sym ring) ∙ is);
     };
     handles = record { live = ap (λ (h : Handles). h.live) handles ∙ st.handles.live; opened = ap (λ (h : Handles). h.opened) handles ∙ st.handles.opened };
-    caches = subst (λ (x : Cache). CachesStand x new.modes after) (sym inodes) (subst (λ (x : Modes). CachesStand old.inodes x after) (sym modes)
-        (caches_alike old.inodes old.modes m (made m.nodes d name m.next fresh) (m.next + 1)
+    caches = subst (λ (x : Cache). RepresentsCaches x new.modes after) (sym inodes) (subst (λ (x : Modes). RepresentsCaches old.inodes x after) (sym modes)
+        (caches_alike old.inodes old.modes m (with_new_node m.nodes d name m.next fresh) (m.next + 1)
         (record {
           contexts = λ n key is. alike context_in (λ g v. refl) n (cached_before n (by_key old.inodes old.handles.live n key is));
           kinds = λ n key is. alike plain_kind (λ g v. kind_left g v.body) n (cached_before n (by_key old.inodes old.handles.live n key is));
         }) st.caches));
-    names = subst (λ (x : NameList). NamesStand x after.nodes) (sym names)
+    names = subst (λ (x : NameList). RepresentsNames x after.nodes) (sym names)
         (names_made old.names m.nodes d name m.next fresh (parent_ok m path d at.led).dir at.there.free remembered_before st.names);
     records = meta ∙ st.records;
   }
 
-  pub made_given : is_long_target body ≡ false → (new : MountState) → StandsFor new after → IsGivenOrNoMemory m (answer_to_make m path nonce body) Done new
-  made_given short new stands = given_by m _ _ Done new (answer_is short) (inl (refl, stands))
+  pub made_given : is_long_target body ≡ false → (new : MountState) → Represents new after → IsAnswerOrNoMemory m (answer_to_make m path nonce body) Done new
+  made_given short new represents = is_answer_by m _ _ Done new (answer_is short) (inl (refl, represents))
 
   -- a creation that can be made isn't refused
-  pub made_due : is_long_target body ≡ false → (reply : Reply) → IsRefusedAsDue (answer_to_make m path nonce body) reply
+  pub made_due : is_long_target body ≡ false → (reply : Reply) → IsExpectedRefusal (answer_to_make m path nonce body) reply
   made_due short reply = due_done after (answer_to_make m path nonce body) reply (answer_is short)
 
   pub well_after : is_long_target body ≡ false → IsWellFormed (answer_to_make m path nonce body).mount → IsWellFormed after

@@ -1,10 +1,10 @@
 -- What a rename is refused, cause by cause, and the state in which a name was moved.
 use Rattle.std.proofs.Common.{◌≡◌, ℕ, ◌≤◌, length, arith, Bool, true, false, cond, not, ◌||◌, List, Option, option_map, IfSome, OnOk, OnErr, Some, None, is_some, Result, Ok, Err, inl, refl, sym, ap, subst, ◌∙◌}
 use Rattle.number_map.specs.Numbered.{changed}
-use Rattle.inode_refs.specs.Cached.{Cache}
+use Rattle.inode_refs.specs.CacheMaps.{Cache}
 use Rattle.plain_tree.specs.Nodes.{Name, Nodes}
 use Rattle.plain_tree.specs.NodesByNumber.{context_at, context_in, entry}
-use Rattle.plain_tree.specs.Changes.{on_children, name_taken, moved}
+use Rattle.plain_tree.specs.Changes.{on_children, without_entry_name, moved}
 use Rattle.plain_tree.specs.BodyChanges.{without_child}
 use Rattle.plain_tree.specs.Facts.{AgreesBy}
 use Rattle.plain_tree.proofs.ChildLemmas.{itself}
@@ -19,29 +19,29 @@ use Rattle.mount_model.specs.SpelledPolicy.{is_same_policy}
 use Rattle.mount_model.specs.declared.reply.Refusal.{Refusal}
 use Rattle.mount_model.specs.declared.reply.Refusal.TheVariants.{NoKey, Inval, Exists, XDev, NoSpace, NoKeyClash}
 use Rattle.std.proofs.lemmas.Bool.{ne_eqb}
-use Rattle.mount_state.specs.Passed.{with_past}
+use Rattle.mount_state.specs.PassedNodes.{with_past}
 use Rattle.mount_model.specs.PlainMount.{PlainMount}
-use Rattle.mount_model.specs.Answered.{Answer, refused, done, done_unless, at_node}
+use Rattle.mount_model.specs.AnswerForms.{Answer, refusal_with, done, done_unless, at_node}
 use Rattle.mount_model.specs.States.{is_keyed}
 use Rattle.mount_model.specs.EncryptedNames.{clashes}
 use Rattle.mount_model.specs.RenameAnswer.{with_moved, answer_to_move_from, answer_to_rename}
 use Rattle.mount_model.specs.MoveRefusal.{may_hold, has_policy, is_full_elsewhere, move_refusal}
-use Rattle.mount_model.specs.Walk.{PathParts, Walked}
+use Rattle.mount_model.specs.Walk.{PathParts, WalkResult}
 use Rattle.mount_model.specs.EntryPaths.{is_root, last_part, parent, is_at_or_above}
 use Rattle.mount_model.specs.WellFormed.{IsWellFormed}
 use Rattle.mount_model.specs.Carried.{IsPath}
 use Rattle.mount_model.specs.declared.call.Op.TheVariants as op
 use Rattle.mount_model.proofs.WellSteps.{step_well}
-use Rattle.mount_state.specs.CachedNames.{NamesForget, NamesStand}
+use Rattle.mount_state.specs.CachedNames.{NamesForget, RepresentsNames}
 use Rattle.mount_state.specs.Stored.{stored_node, stored_form}
-use Rattle.mount_state.specs.StandsFor.{StandsFor}
-use Rattle.mount_state.specs.CachedKeys.{CachesStand, plain_kind}
+use Rattle.mount_state.specs.Represents.{Represents}
+use Rattle.mount_state.specs.CachedKeys.{RepresentsCaches, plain_kind}
 use Rattle.mount_state.specs.declared.state.MountState.{MountState}
 use Rattle.mount_names.specs.Places.{Entry, Place}
-use Rattle.mount_names.specs.Found.{IsEntryOn, entry_end}
+use Rattle.mount_names.specs.FoundEntries.{IsEntryOn, entry_end}
 use Rattle.mount_names.specs.NewPlaces.{IsNewName}
-use Rattle.mount_names.specs.Moved.{IsTargetAt}
-use Rattle.mount_names.specs.Removed.{IsEntryOf}
+use Rattle.mount_names.specs.Moves.{IsTargetAt}
+use Rattle.mount_names.specs.Removals.{IsEntryOf}
 use Rattle.mount_names.specs.SameButTree.{SameButTree}
 use Rattle.mount_names.proofs.AgreeLemmas.{put_agrees, taken_agrees}
 use Rattle.mount_state.specs.Discipline.{Forgets}
@@ -80,7 +80,7 @@ may_stay m well old e of = under (context_at m.nodes e.dir) refl
 -- ---- at the end of the old path
 
 module _ (m : PlainMount) (path new_path : PathParts) (named : (is_root path || is_root new_path) ≡ false) where
-  pub source_refused : (r : Refusal) → Err r ≡ entry_end true m path → answer_to_rename m path new_path ≡ refused m r
+  pub source_refused : (r : Refusal) → Err r ≡ entry_end true m path → answer_to_rename m path new_path ≡ refusal_with m r
   source_refused r is = end_refused m path true r is (is_root path || is_root new_path) named Inval (answer_to_move_from m new_path)
 
   pub rename_is : (e : Entry) (from : IsAt m path true e) → answer_to_rename m path new_path ≡ answer_to_move_from m new_path e.dir from.name e.number
@@ -88,29 +88,29 @@ module _ (m : PlainMount) (path new_path : PathParts) (named : (is_root path || 
 
 -- ---- the state in which it was moved
 
-module _ (old : MountState) (m : PlainMount) (st : StandsFor old m) (e : Entry) (name : Name) (of : IsEntryOf m name e) (place : Place) (new_name : Name) (at : IsNewName m place.dir new_name place) where
+module _ (old : MountState) (m : PlainMount) (st : Represents old m) (e : Entry) (name : Name) (of : IsEntryOf m name e) (place : Place) (new_name : Name) (at : IsNewName m place.dir new_name place) where
   abbrev after_move : Nodes
   after_move = moved m.nodes e.dir name place.dir new_name e.number
 
   abbrev taken_disk : Disk
   taken_disk = changed old.disk e.dir (on_body (with_entries (without_entry e.stored)))
 
-  form_left : place.stored ≡ stored_form m.raws place.dir (context_at (name_taken m.nodes e.dir name) place.dir) new_name
+  form_left : place.stored ≡ stored_form m.raws place.dir (context_at (without_entry_name m.nodes e.dir name) place.dir) new_name
   form_left =
       at.stored ∙ ap (λ (o : Option Context). stored_form m.raws place.dir o new_name)
       (sym (read_changed context_in m.nodes e.dir (on_children (without_child name)) (λ v. refl) place.dir))
 
-  agree_after : AgreesBy (stored_node m.raws) after_move (disk.moved old.disk e.dir e.stored place.dir place.stored e.number)
-  agree_after = put_agrees m.raws (name_taken m.nodes e.dir name) taken_disk
+  agree_after : AgreesBy (stored_node m.raws) after_move (disk.with_moved_entry old.disk e.dir e.stored place.dir place.stored e.number)
+  agree_after = put_agrees m.raws (without_entry_name m.nodes e.dir name) taken_disk
       (taken_agrees m.raws m.nodes old.disk st.tree.nodes e.dir e.stored name of.stored (stored_apart old.disk old.next_node m st.well st.tree e.dir name (ap is_some of.there)))
       place.dir place.stored new_name e.number form_left
 
-  pub moved_stands : (new : MountState) → SameButTree old new → new.next_node ≡ old.next_node → new.disk ≡ disk.moved old.disk e.dir e.stored place.dir place.stored e.number → new.inodes ≡ old.inodes
-      → NamesStand new.names after_move → IsWellFormed (with_moved m e.dir name place.dir new_name e.number) → StandsFor new (with_moved m e.dir name place.dir new_name e.number)
+  pub moved_stands : (new : MountState) → SameButTree old new → new.next_node ≡ old.next_node → new.disk ≡ disk.with_moved_entry old.disk e.dir e.stored place.dir place.stored e.number → new.inodes ≡ old.inodes
+      → RepresentsNames new.names after_move → IsWellFormed (with_moved m e.dir name place.dir new_name e.number) → Represents new (with_moved m e.dir name place.dir new_name e.number)
   moved_stands new same next disk_is inodes names well =
       nodes_stand old new m after_move st same next
       (subst (λ (x : Disk). AgreesBy (stored_node m.raws) after_move x) (sym disk_is) agree_after)
-      (subst (λ (x : Cache). CachesStand x old.modes (with_nodes m after_move)) (sym inodes)
+      (subst (λ (x : Cache). RepresentsCaches x old.modes (with_nodes m after_move)) (sym inodes)
       (caches_alike old.inodes old.modes m after_move m.next (record {
         contexts = λ n key there. read_moved context_in context_left_so m.nodes e.dir name place.dir new_name e.number n;
         kinds = λ n key there. read_moved plain_kind kind_left_so m.nodes e.dir name place.dir new_name e.number n;
@@ -124,11 +124,11 @@ rename_well m path new_path well fits new_fits =
 
 -- the disk once the entry was moved
 pub move_seen : (old new : Disk) (e : Entry) (place : Place) (from to : List ℕ) → from ≡ e.stored → to ≡ place.stored → IsEntryOn old e
-    → IfSome (number_under from (stored_entries old e.dir)) (λ n. new ≡ disk.moved old e.dir from place.dir to n) → new ≡ disk.moved old e.dir e.stored place.dir place.stored e.number
+    → IfSome (number_under from (stored_entries old e.dir)) (λ n. new ≡ disk.with_moved_entry old e.dir from place.dir to n) → new ≡ disk.with_moved_entry old e.dir e.stored place.dir place.stored e.number
 move_seen old new e place from to from_is to_is there moved_so =
-    subst (λ (o : Option ℕ). IfSome o (λ n. new ≡ disk.moved old e.dir e.stored place.dir place.stored n)) there
-    (subst (λ (b : List ℕ). IfSome (number_under e.stored (stored_entries old e.dir)) (λ n. new ≡ disk.moved old e.dir e.stored place.dir b n)) to_is
-    (subst (λ (b : List ℕ). IfSome (number_under b (stored_entries old e.dir)) (λ n. new ≡ disk.moved old e.dir b place.dir to n)) from_is moved_so))
+    subst (λ (o : Option ℕ). IfSome o (λ n. new ≡ disk.with_moved_entry old e.dir e.stored place.dir place.stored n)) there
+    (subst (λ (b : List ℕ). IfSome (number_under e.stored (stored_entries old e.dir)) (λ n. new ≡ disk.with_moved_entry old e.dir e.stored place.dir b n)) to_is
+    (subst (λ (b : List ℕ). IfSome (number_under b (stored_entries old e.dir)) (λ n. new ≡ disk.with_moved_entry old e.dir b place.dir to n)) from_is moved_so))
 
 -- ---- why it can't come to the directory
 
@@ -193,27 +193,27 @@ ok_past n past = Ok (n, past)
 abbrev no_past : Refusal → Result (ℕ × Bool) Refusal
 no_past r = Err r
 
-abbrev ok_at : ℕ → Walked
+abbrev ok_at : ℕ → WalkResult
 ok_at n = Ok n
 
-abbrev no_at : Refusal → Walked
+abbrev no_at : Refusal → WalkResult
 no_at r = Err r
 
-pub walk_led : (past whole : Bool) (n : ℕ) (w : Walked) → ok_past n past ≡ with_past whole w → ok_at n ≡ w
+pub walk_led : (past whole : Bool) (n : ℕ) (w : WalkResult) → ok_past n past ≡ with_past whole w → ok_at n ≡ w
 walk_led past whole n (Ok k) is = ap ok_at (number is)
   where
     number : ok_past n past ≡ ok_past k whole → n ≡ k
     number is = let pair : (ℕ × Bool) = (n, past) in let other : (ℕ × Bool) = (k, whole) in let both : pair ≡ other = cc in ap (λ (p : ℕ × Bool). p.0) both
 walk_led past whole n (Err r) is = let bad : ok_past n past ≡ no_past r = is in absurd (cc)
 
-pub walk_passed : (past whole : Bool) (n : ℕ) (w : Walked) → ok_past n past ≡ with_past whole w → past ≡ whole
+pub walk_passed : (past whole : Bool) (n : ℕ) (w : WalkResult) → ok_past n past ≡ with_past whole w → past ≡ whole
 walk_passed past whole n (Ok k) is = flag is
   where
     flag : ok_past n past ≡ ok_past k whole → past ≡ whole
     flag is = let pair : (ℕ × Bool) = (n, past) in let other : (ℕ × Bool) = (k, whole) in let both : pair ≡ other = cc in ap (λ (p : ℕ × Bool). p.1) both
 walk_passed past whole n (Err r) is = let bad : ok_past n past ≡ no_past r = is in absurd (cc)
 
-pub walk_stopped : (whole : Bool) (r : Refusal) (w : Walked) → no_past r ≡ with_past whole w → no_at r ≡ w
+pub walk_stopped : (whole : Bool) (r : Refusal) (w : WalkResult) → no_past r ≡ with_past whole w → no_at r ≡ w
 walk_stopped whole r (Err q) is = ap no_at (same is)
   where
     same : no_past r ≡ no_past q → r ≡ q
@@ -235,7 +235,7 @@ module _ (m : PlainMount) (e : Entry) (name : Name) (path : PathParts) where
   abbrev answer : Answer
   answer = answer_to_move_from m path e.dir name e.number
 
-  pub refused_walk : (r : Refusal) → no_at r ≡ parent m path → answer ≡ refused m r
+  pub refused_walk : (r : Refusal) → no_at r ≡ parent m path → answer ≡ refusal_with m r
   refused_walk r is = ap (λ w. at_node m w move_in) (sym is)
 
   pub told_there : (to : ℕ) → ok_at to ≡ parent m path → (o : Option Refusal) → why_in to ≡ o
@@ -286,7 +286,7 @@ module _ (m : PlainMount) (e : Entry) (name : Name) (path : PathParts) (place : 
 
 module _ (s : MountState) (e : Entry) (place : Place) (new : Disk) (from to : List ℕ) (from_is : from ≡ e.stored) (to_is : to ≡ place.stored) (there : IsEntryOn s.disk e) where
   abbrev MovedSo : Type 0
-  MovedSo = IfSome (number_under from (stored_entries s.disk e.dir)) (λ n. new ≡ disk.moved s.disk e.dir from place.dir to n)
+  MovedSo = IfSome (number_under from (stored_entries s.disk e.dir)) (λ n. new ≡ disk.with_moved_entry s.disk e.dir from place.dir to n)
 
   pub moved_keeps : {T : Type 0} (r : Result T DiskFault) → OnOk r MovedSo → OnErr r (new ≡ s.disk) → Forgets new s.ring.claims s.inodes s.modes s.handles.live
   moved_keeps (Ok t) so kept = subst (λ (x : Disk). Forgets x s.ring.claims s.inodes s.modes s.handles.live) (sym (move_seen s.disk new e place from to from_is to_is there so))

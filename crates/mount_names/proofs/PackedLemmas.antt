@@ -4,7 +4,7 @@ use Rattle.std.specs.List.{sum}
 use Rattle.std.proofs.lemmas.List.{drop-append-le, length-drop, take-append-le, take_all}
 use Rattle.std.proofs.lemmas.List.Sums.{sum_by-cons}
 use Rattle.plain_tree.specs.Nodes.{Name}
-use Rattle.mount_names.specs.Packed.{parts_of}
+use Rattle.mount_names.specs.PackedNames.{parts_of}
 
 -- the first name has no more bytes than there are, and the others have the rest
 pub first_fits : (n : ℕ) (ns bytes : List ℕ) → sum (n ∷ ns) ≡ length bytes → n ≤ length bytes

@@ -11,7 +11,7 @@ use Rattle.std.proofs.lemmas.List.Sorted.{IsPermutation-map, sum_by-IsPermutatio
 use Rattle.std.proofs.lemmas.List.Sums.{sum_by-append, sum_by-cons}
 use Rattle.plain_tree.specs.Nodes.{Name}
 use Rattle.mount_model.specs.ListAnswers.{put_in_order, in_order}
-use Rattle.mount_names.specs.Listed.{names_of}
+use Rattle.mount_names.specs.NamePages.{names_of}
 use Rattle.mount_names.proofs.ListedLemmas.{below, order, one, count, at_head, head_or_behind, Rises, unique, order_count, order_rises}
 
 -- the same test of what references are to

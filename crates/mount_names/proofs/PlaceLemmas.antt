@@ -22,52 +22,52 @@ use Rattle.mount_model.specs.SoundNodes.{IsName}
 use Rattle.mount_model.specs.NameAnswers.{is_full, is_long_target, answer_to_make_in, answer_to_make}
 use Rattle.mount_model.specs.NewNodes.{new_node, with_node}
 use Rattle.mount_model.specs.EncryptedNames.{lacks_key, clashes}
-use Rattle.mount_model.specs.Answered.{Answer, refused, done, at_node}
+use Rattle.mount_model.specs.AnswerForms.{Answer, refusal_with, done, at_node}
 use Rattle.mount_model.specs.Carried.{IsPath}
 use Rattle.mount_model.proofs.TreeCalls.{is_name}
 use Rattle.mount_model.proofs.WalkLemmas.{parent_ok}
-use Rattle.mount_state.specs.StandsFor.{StandsFor, TreeStands}
+use Rattle.mount_state.specs.Represents.{Represents, RepresentsTree}
 use Rattle.mount_state.specs.CachedKeys.{plain_kind}
 use Rattle.mount_state.specs.declared.state.MountState.{MountState}
 use Rattle.mount_names.specs.NewPlaces.{IsAskedIn, IsNewName, IsPlaceOf}
 use Rattle.mount_names.specs.Places.{Place}
-use Rattle.mount_names.specs.Shown.{HasNames}
+use Rattle.mount_names.specs.VisibleNames.{HasNames}
 
 -- ---- the refusals, in their order
 
 module _ (m : PlainMount) (name : Name) (nonce : List ℕ) (body : Body) (d : ℕ) where
   abbrev after_clash : Answer
-  after_clash = cond (is_full m d) (refused m NoSpace) (done (with_node m d name (new_node m d nonce body)))
+  after_clash = cond (is_full m d) (refusal_with m NoSpace) (done (with_node m d name (new_node m d nonce body)))
 
   abbrev after_long : Answer
-  after_long = cond (clashes m d name) (refused m NoKeyClash) after_clash
+  after_long = cond (clashes m d name) (refusal_with m NoKeyClash) after_clash
 
   abbrev after_free : Answer
-  after_free = cond (is_long_target body) (refused m NameTooLong) after_long
+  after_free = cond (is_long_target body) (refusal_with m NameTooLong) after_long
 
   module _ (keyed : lacks_key m (context_at m.nodes d) ≡ false) where
-    pub refused_taken : is_some (entry m.nodes d name) ≡ true → answer_to_make_in m name nonce body d ≡ refused m Exists
-    refused_taken taken = λ i. cond (keyed i) (refused m NoKey) (cond (taken i) (refused m Exists) after_free)
+    pub refused_taken : is_some (entry m.nodes d name) ≡ true → answer_to_make_in m name nonce body d ≡ refusal_with m Exists
+    refused_taken taken = λ i. cond (keyed i) (refusal_with m NoKey) (cond (taken i) (refusal_with m Exists) after_free)
 
     module _ (free : is_some (entry m.nodes d name) ≡ false) where
-      pub refused_long : is_long_target body ≡ true → answer_to_make_in m name nonce body d ≡ refused m NameTooLong
-      refused_long long = λ i. cond (keyed i) (refused m NoKey) (cond (free i) (refused m Exists) (cond (long i) (refused m NameTooLong) after_long))
+      pub refused_long : is_long_target body ≡ true → answer_to_make_in m name nonce body d ≡ refusal_with m NameTooLong
+      refused_long long = λ i. cond (keyed i) (refusal_with m NoKey) (cond (free i) (refusal_with m Exists) (cond (long i) (refusal_with m NameTooLong) after_long))
 
       module _ (short : is_long_target body ≡ false) where
-        pub refused_clash : clashes m d name ≡ true → answer_to_make_in m name nonce body d ≡ refused m NoKeyClash
+        pub refused_clash : clashes m d name ≡ true → answer_to_make_in m name nonce body d ≡ refusal_with m NoKeyClash
         refused_clash clash =
-            λ i. cond (keyed i) (refused m NoKey) (cond (free i) (refused m Exists) (cond (short i) (refused m NameTooLong) (cond (clash i) (refused m NoKeyClash) after_clash)))
+            λ i. cond (keyed i) (refusal_with m NoKey) (cond (free i) (refusal_with m Exists) (cond (short i) (refusal_with m NameTooLong) (cond (clash i) (refusal_with m NoKeyClash) after_clash)))
 
         module _ (apart : clashes m d name ≡ false) where
-          pub refused_full : is_full m d ≡ true → answer_to_make_in m name nonce body d ≡ refused m NoSpace
+          pub refused_full : is_full m d ≡ true → answer_to_make_in m name nonce body d ≡ refusal_with m NoSpace
           refused_full full =
-              λ i. cond (keyed i) (refused m NoKey) (cond (free i) (refused m Exists) (cond (short i) (refused m NameTooLong) (cond (apart i) (refused m NoKeyClash)
-              (cond (full i) (refused m NoSpace) (done (with_node m d name (new_node m d nonce body)))))))
+              λ i. cond (keyed i) (refusal_with m NoKey) (cond (free i) (refusal_with m Exists) (cond (short i) (refusal_with m NameTooLong) (cond (apart i) (refusal_with m NoKeyClash)
+              (cond (full i) (refusal_with m NoSpace) (done (with_node m d name (new_node m d nonce body)))))))
 
           pub not_refused : is_full m d ≡ false → answer_to_make_in m name nonce body d ≡ done (with_node m d name (new_node m d nonce body))
           not_refused room =
-              λ i. cond (keyed i) (refused m NoKey) (cond (free i) (refused m Exists) (cond (short i) (refused m NameTooLong) (cond (apart i) (refused m NoKeyClash)
-              (cond (room i) (refused m NoSpace) (done (with_node m d name (new_node m d nonce body)))))))
+              λ i. cond (keyed i) (refusal_with m NoKey) (cond (free i) (refusal_with m Exists) (cond (short i) (refusal_with m NameTooLong) (cond (apart i) (refusal_with m NoKeyClash)
+              (cond (room i) (refusal_with m NoSpace) (done (with_node m d name (new_node m d nonce body)))))))
 
 -- ---- at the end of a path
 
@@ -84,7 +84,7 @@ both_named p q a b off empty other_off other_empty = λ i. some_parts p a off em
 pub at_parent : (m : PlainMount) (path : PathParts) (nonce : List ℕ) (body : Body) (d : ℕ) → is_root path ≡ false → Ok d ≡ parent m path
     → answer_to_make m path nonce body ≡ answer_to_make_in m (last_part path) nonce body d
 at_parent m path nonce body d named led =
-    λ i. cond (named i) (refused m Exists) (at_node m (sym led i) (answer_to_make_in m (last_part path) nonce body))
+    λ i. cond (named i) (refusal_with m Exists) (at_node m (sym led i) (answer_to_make_in m (last_part path) nonce body))
 
 -- what holds in the directory holds at the path
 module _ (m : PlainMount) (path : PathParts) (d : ℕ) (part : Name) (named : is_root path ≡ false) (led : Ok d ≡ parent m path) (part_is : part ≡ last_part path) (fits : IsPath path) where
@@ -94,7 +94,7 @@ module _ (m : PlainMount) (path : PathParts) (d : ℕ) (part : Name) (named : is
   pub name_here : IsName part
   name_here = subst IsName (sym part_is) (is_name m path d fits named (parent_ok m path d (sym led)))
 
-  pub refused_here : (nonce : List ℕ) (body : Body) (r : Refusal) → answer_to_make_in m part nonce body d ≡ refused m r → answer_to_make m path nonce body ≡ refused m r
+  pub refused_here : (nonce : List ℕ) (body : Body) (r : Refusal) → answer_to_make_in m part nonce body d ≡ refusal_with m r → answer_to_make m path nonce body ≡ refusal_with m r
   refused_here nonce body r is =
       at_parent m path nonce body d named led
       ∙ (ap (λ (p : Name). answer_to_make_in m p nonce body d) (sym part_is) ∙ is)
@@ -139,17 +139,17 @@ by_itself part show (c ∷ cs) itself =
       | false ↦ by_itself part show cs itself
     ])
 
-module _ (disk : Disk) (next : ℕ) (m : PlainMount) (well : IsWellFormed m) (tree : TreeStands disk next m) (d : ℕ) (is_dir : is_dir_at m.nodes d ≡ true) where
+module _ (disk : Disk) (next : ℕ) (m : PlainMount) (well : IsWellFormed m) (tree : RepresentsTree disk next m) (d : ℕ) (is_dir : is_dir_at m.nodes d ≡ true) where
   pub dir_names : HasNames m d
   dir_names = dir_kind (get m.nodes d) is_dir
 
 -- a directory whose key is present is keyed
-pub asked_here : (s : MountState) (m : PlainMount) → StandsFor s m → (d : ℕ) → is_dir_at m.nodes d ≡ true → (name : Name) → IsName name
+pub asked_here : (s : MountState) (m : PlainMount) → Represents s m → (d : ℕ) → is_dir_at m.nodes d ≡ true → (name : Name) → IsName name
     → (context : Option Context) → context ≡ context_at m.nodes d → (lacks : Bool) → lacks ≡ lacks_key m context → lacks ≡ false
     → IsAskedIn s m d context name × (lacks_key m (context_at m.nodes d) ≡ false)
 asked_here s m st d is_dir name named context is lacks lacks_is holds =
     let held : lacks_key m (context_at m.nodes d) ≡ false = ap (lacks_key m) (sym is) ∙ (sym lacks_is ∙ holds) in (
-      record { stands = st; is_dir = is_dir; named = named; keyed = keyed_under m d (context_at m.nodes d) held; context = is },
+      record { represents = st; is_dir = is_dir; named = named; keyed = keyed_under m d (context_at m.nodes d) held; context = is },
       held,
     )
 

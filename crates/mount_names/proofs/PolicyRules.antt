@@ -23,7 +23,7 @@ use Rattle.key_ring.specs.Modes.{Modes, of_kind, with_kind, mode_at}
 use Rattle.key_ring.specs.ModeUsers.{with_users, more_users, users_in, users_of}
 use Rattle.key_ring.specs.declared.mode_key.ModeKey.{ModeKey}
 use Rattle.key_ring.proofs.ModeLemmas.{users_in-with_users}
-use Rattle.inode_refs.specs.Cached.{Cache, key_at}
+use Rattle.inode_refs.specs.CacheMaps.{Cache, key_at}
 use Rattle.inode_refs.specs.declared.node_key.NodeKey.{NodeKey}
 use Rattle.disk_tree.specs.DiskTree.{Disk, IsDirAt, of_node}
 use Rattle.disk_tree.specs.Nodes.{IsDir, with_context}
@@ -37,7 +37,7 @@ use Rattle.mount_state.specs.Discipline.{Forgets}
 use Rattle.mount_state.specs.Handles.{users, handles_on}
 use Rattle.mount_state.specs.Safe.{IsSafe}
 use Rattle.mount_state.proofs.KeepLemmas.{with_key, dir_kind}
-use Rattle.mount_names.specs.Encrypted.{keys_with, modes_with}
+use Rattle.mount_names.specs.EncryptedDirs.{keys_with, modes_with}
 use Rattle.mount_names.proofs.EditLemmas.{read_changed}
 use Rattle.mount_names.proofs.HeldLemmas.{IsHeld, rule_alike, users_alike}
 

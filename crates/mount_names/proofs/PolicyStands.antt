@@ -14,10 +14,10 @@ use Rattle.key_ring.specs.Holding.{Holding, secret_of}
 use Rattle.key_ring.specs.Modes.{Modes, of_kind, with_kind, mode_at}
 use Rattle.key_ring.specs.ModeUsers.{with_users}
 use Rattle.key_ring.specs.declared.mode_key.ModeKey.{ModeKey}
-use Rattle.inode_refs.specs.Cached.{Cache}
+use Rattle.inode_refs.specs.CacheMaps.{Cache}
 use Rattle.plain_tree.specs.Nodes.{Node, Body, Dir, File, Link, Children, children_of}
 use Rattle.plain_tree.specs.NodesByNumber.{children, children_in, context_in, context_at, is_dir_in, is_dir_at}
-use Rattle.plain_tree.specs.Changes.{with_context, encrypted}
+use Rattle.plain_tree.specs.Changes.{with_context, with_node_context}
 use Rattle.plain_tree.specs.Facts.{AgreesBy}
 use Rattle.plain_tree.proofs.AgreeLemmas.{agree_edited}
 use Rattle.disk_tree.specs.DiskTree.{Disk, IsDirAt}
@@ -30,16 +30,16 @@ use Rattle.mount_state.specs.Contexts as disk
 use Rattle.mount_state.specs.StoredKinds.{is_of_kind}
 use Rattle.dentry_cache.specs.Names.{NameList}
 use Rattle.plain_tree.proofs.EditedLemmas.{edited_entry, leaves_context}
-use Rattle.mount_state.specs.CachedNames.{NamesStand}
+use Rattle.mount_state.specs.CachedNames.{RepresentsNames}
 use Rattle.mount_state.specs.Handles.{Handles, handles_on}
-use Rattle.mount_state.specs.NamesKey.{drawn_key}
+use Rattle.mount_state.specs.NamesKey.{derived_file_key}
 use Rattle.mount_state.specs.Stored.{stored_node, stored_body}
-use Rattle.mount_state.specs.StandsFor.{StandsFor}
-use Rattle.mount_state.specs.CachedKeys.{CachesStand, plain_kind}
+use Rattle.mount_state.specs.Represents.{Represents}
+use Rattle.mount_state.specs.CachedKeys.{RepresentsCaches, plain_kind}
 use Rattle.mount_state.specs.declared.state.MountState.{MountState}
 use Rattle.mount_state.proofs.KeepLemmas.{with_key, kept_stand}
 use Rattle.mount_state.proofs.KeyedLemmas.{drawn_is}
-use Rattle.mount_names.specs.Encrypted.{keys_with, modes_with, with_policy}
+use Rattle.mount_names.specs.EncryptedDirs.{keys_with, modes_with, with_policy}
 use Rattle.mount_names.proofs.EditLemmas.{read_changed}
 use Rattle.mount_names.proofs.HeldLemmas.{caches_alike}
 use Rattle.mount_names.proofs.PlaceLemmas.{dir_names}
@@ -60,7 +60,7 @@ body_alike raws d old new v is empty = at v.body is empty
     at (File contents) bad none = absurd (true≢false (sym bad))
     at (Link target) bad none = absurd (true≢false (sym bad))
 
-module _ (old : MountState) (m : PlainMount) (st : StandsFor old m) (d : ℕ) (c : Context) (is_dir : is_dir_at m.nodes d ≡ true) (empty : children m.nodes d ≡ []) where
+module _ (old : MountState) (m : PlainMount) (st : Represents old m) (d : ℕ) (c : Context) (is_dir : is_dir_at m.nodes d ≡ true) (empty : children m.nodes d ≡ []) where
   abbrev after : PlainMount
   after = with_policy m d c
 
@@ -70,7 +70,7 @@ module _ (old : MountState) (m : PlainMount) (st : StandsFor old m) (d : ℕ) (c
       let none : children_in (Some v) ≡ [] = ap children_in (sym there) ∙ empty in
       λ i. record { context = Some (context_bytes c); named = v.named; body = body_alike m.raws d v.context (Some c) v dir none i }
 
-  pub policy_agrees : AgreesBy (stored_node m.raws) (encrypted m.nodes d c) (changed old.disk d (stored.with_context (context_bytes c)))
+  pub policy_agrees : AgreesBy (stored_node m.raws) (with_node_context m.nodes d c) (changed old.disk d (stored.with_context (context_bytes c)))
   policy_agrees = agree_edited (stored_node m.raws) m.nodes old.disk st.tree.nodes d (with_context c) (stored.with_context (context_bytes c)) node_given
 
   names : plain_kind (get m.nodes d) ≡ Names
@@ -88,24 +88,24 @@ module _ (old : MountState) (m : PlainMount) (st : StandsFor old m) (d : ℕ) (c
 
   -- ---- the derived key is the directory's
 
-  pub key_is : (key : FileKey) → drawn_key old.ring c ≡ Some key → key ≡ node_key m.raws c Names
+  pub key_is : (key : FileKey) → derived_file_key old.ring c ≡ Some key → key ≡ node_key m.raws c Names
   key_is key drawn =
       drawn_is after d c context_here old.ring (record { claims = st.keys.claims; secrets = st.keys.secrets }) key drawn
 
   -- ---- what is cached
 
   module _ (dir : IsDirAt old.disk d) (plain : disk.context_on_disk (get old.disk d) ≡ None) where
-    pub unheld_caches : CachesStand old.inodes old.modes after
-    unheld_caches = caches_alike old.inodes old.modes m (encrypted m.nodes d c) m.next
+    pub unheld_caches : RepresentsCaches old.inodes old.modes after
+    unheld_caches = caches_alike old.inodes old.modes m (with_node_context m.nodes d c) m.next
         (record {
           contexts = λ n key is. ap context_in (changed_other m.nodes d (with_context c) n
               (not_here old.disk old.next_node d c dir plain old.ring.claims old.inodes old.modes old.handles.live old.forgets n key is));
           kinds = λ n key is. read_changed plain_kind m.nodes d (with_context c) (λ v. refl) n;
         }) st.caches
 
-    module _ (key : FileKey) (drawn : drawn_key old.ring c ≡ Some key) (kind : is_of_kind Names key ≡ true) (size : length c.policy.id.0 ≡ 16)
+    module _ (key : FileKey) (drawn : derived_file_key old.ring c ≡ Some key) (kind : is_of_kind Names key ≡ true) (size : length c.policy.id.0 ≡ 16)
         (held_here : has_handle old.handles.live d ≡ true) (handles : ℕ) (count : handles ≡ handles_on old.handles.live d) where
-      own_caches : CachesStand (with_key old.inodes d c.policy.id key) old.modes after
+      own_caches : RepresentsCaches (with_key old.inodes d c.policy.id key) old.modes after
       own_caches = kept_stand old.inodes d c.policy.id key old.modes after unheld_caches (λ e under.
           let same : c ≡ e = (let both : Some c ≡ Some e = sym context_here ∙ under in cc) in
           key_is key drawn ∙ (λ i. node_key m.raws (same i) (sym kind_here i)))
@@ -113,7 +113,7 @@ module _ (old : MountState) (m : PlainMount) (st : StandsFor old m) (d : ℕ) (c
       mode_is : c.policy.by_mode ≡ true → key ≡ mode_key_of (unwrap_or (raw_in m.raws c.policy.id) []) Names
       mode_is mode = key_is key drawn ∙ ap (λ b. cond b (mode_key_of (raw_for m.raws c) Names) (file_key_of (raw_for m.raws c) Names c.nonce)) mode
 
-      shared_caches : c.policy.by_mode ≡ true → CachesStand old.inodes (with_kind old.modes Names (with_users (of_kind old.modes Names) c.policy.id key handles)) after
+      shared_caches : c.policy.by_mode ≡ true → RepresentsCaches old.inodes (with_kind old.modes Names (with_users (of_kind old.modes Names) c.policy.id key handles)) after
       shared_caches mode = record { file_keys = unheld_caches.file_keys; mode_keys = by_kind }
         where
           by_kind : (id : KeyId) (k : KeyKind) (x : ModeKey) → mode_at (with_kind old.modes Names (with_users (of_kind old.modes Names) c.policy.id key handles)) id k ≡ Some x
@@ -123,11 +123,11 @@ module _ (old : MountState) (m : PlainMount) (st : StandsFor old m) (d : ℕ) (c
               each_mode old.disk old.next_node d c dir plain old.ring.claims old.inodes old.modes old.handles.live old.forgets key kind size held_here mode handles count
               (λ q k. k ≡ mode_key_of (unwrap_or (raw_in m.raws q) []) Names) (mode_is mode) (λ q y there. st.caches.mode_keys q Names y there) id x is
 
-      pub open_caches : CachesStand (keys_with old.inodes d c key) (modes_with old.modes handles c key) after
+      pub open_caches : RepresentsCaches (keys_with old.inodes d c key) (modes_with old.modes handles c key) after
       open_caches = by_flag c.policy.by_mode refl
         where
           by_flag : (b : Bool) → c.policy.by_mode ≡ b
-              → CachesStand (cond b old.inodes (with_key old.inodes d c.policy.id key))
+              → RepresentsCaches (cond b old.inodes (with_key old.inodes d c.policy.id key))
               (cond b (with_kind old.modes Names (with_users (of_kind old.modes Names) c.policy.id key handles)) old.modes) after
           by_flag true is = shared_caches is
           by_flag false is = own_caches
@@ -135,11 +135,11 @@ module _ (old : MountState) (m : PlainMount) (st : StandsFor old m) (d : ℕ) (c
   -- ---- the whole
 
   pub policy_stands : (new : MountState) → new.disk ≡ changed old.disk d (stored.with_context (context_bytes c)) → new.next_node ≡ old.next_node
-      → new.ring ≡ old.ring → new.meta ≡ old.meta → new.handles ≡ old.handles → CachesStand new.inodes new.modes after → new.names ≡ old.names → IsWellFormed after → StandsFor new after
+      → new.ring ≡ old.ring → new.meta ≡ old.meta → new.handles ≡ old.handles → RepresentsCaches new.inodes new.modes after → new.names ≡ old.names → IsWellFormed after → Represents new after
   policy_stands new disk_is next ring meta handles caches names well = record {
     well = well;
     tree = record {
-      nodes = subst (λ (x : Disk). AgreesBy (stored_node m.raws) (encrypted m.nodes d c) x) (sym disk_is) policy_agrees;
+      nodes = subst (λ (x : Disk). AgreesBy (stored_node m.raws) (with_node_context m.nodes d c) x) (sym disk_is) policy_agrees;
       next = next ∙ st.tree.next;
     };
     keys = record {
@@ -148,7 +148,7 @@ module _ (old : MountState) (m : PlainMount) (st : StandsFor old m) (d : ℕ) (c
     };
     handles = record { live = ap (λ (h : Handles). h.live) handles ∙ st.handles.live; opened = ap (λ (h : Handles). h.opened) handles ∙ st.handles.opened };
     caches = caches;
-    names = subst (λ (x : NameList). NamesStand x after.nodes) (sym names) (record {
+    names = subst (λ (x : NameList). RepresentsNames x after.nodes) (sym names) (record {
       entries = λ pair held. edited_entry m.nodes d (with_context c) (leaves_context c) pair.0.dir pair.0.name ∙ st.names.entries pair held;
     });
     records = meta ∙ st.records;
@@ -156,6 +156,6 @@ module _ (old : MountState) (m : PlainMount) (st : StandsFor old m) (d : ℕ) (c
 
 -- cached keys that are given by equations
 pub caches_of : (cache new_cache : Cache) (modes new_modes : Modes) (m : PlainMount) → new_cache ≡ cache → new_modes ≡ modes
-    → CachesStand cache modes m → CachesStand new_cache new_modes m
+    → RepresentsCaches cache modes m → RepresentsCaches new_cache new_modes m
 caches_of cache new_cache modes new_modes m cache_is modes_is stand =
-    subst (λ (x : Cache). CachesStand x new_modes m) (sym cache_is) (subst (λ (x : Modes). CachesStand cache x m) (sym modes_is) stand)
+    subst (λ (x : Cache). RepresentsCaches x new_modes m) (sym cache_is) (subst (λ (x : Modes). RepresentsCaches cache x m) (sym modes_is) stand)

@@ -13,7 +13,7 @@ use Rattle.mount_model.specs.WellFormed.{IsWellFormed}
 use Rattle.mount_state.specs.Contexts.{context_on_disk}
 use Rattle.mount_state.specs.NamesKey.{IsContextOf}
 use Rattle.mount_state.specs.Stored.{stored_node}
-use Rattle.mount_state.specs.StandsFor.{TreeStands}
+use Rattle.mount_state.specs.Represents.{RepresentsTree}
 use Rattle.mount_state.proofs.StandLemmas.{context_is, id_sized}
 
 dir_from : (raws : Raws) (n : ℕ) (o : Option Node) → of_node ⊥ (λ node. IsDir node.body) (option_map (stored_node raws n) o) → is_dir_in o ≡ true
@@ -34,7 +34,7 @@ dir_to raws n (Some v) is = at v.body is
     at (File contents) bad = absurd (true≢false (sym bad))
     at (Link target) bad = absurd (true≢false (sym bad))
 
-module _ (disk : Disk) (next : ℕ) (m : PlainMount) (tree : TreeStands disk next m) (n : ℕ) where
+module _ (disk : Disk) (next : ℕ) (m : PlainMount) (tree : RepresentsTree disk next m) (n : ℕ) where
   pub dir_read : IsDirAt disk n → is_dir_at m.nodes n ≡ true
   dir_read is = dir_from m.raws n (get m.nodes n) (subst (of_node ⊥ (λ node. IsDir node.body)) (tree.nodes n) is)
 
@@ -42,8 +42,8 @@ module _ (disk : Disk) (next : ℕ) (m : PlainMount) (tree : TreeStands disk nex
   dir_lies is = subst (of_node ⊥ (λ node. IsDir node.body)) (sym (tree.nodes n)) (dir_to m.raws n (get m.nodes n) is)
 
   -- what is read of the node's context
-  pub context_told : IsWellFormed m → (result : Option Context) → IsContextOf disk n result → (context_on_disk (get disk n) ≡ None → result ≡ None) → result ≡ context_at m.nodes n
-  context_told well result read none = by_case (context_at m.nodes n) refl
+  pub reported_context : IsWellFormed m → (result : Option Context) → IsContextOf disk n result → (context_on_disk (get disk n) ≡ None → result ≡ None) → result ≡ context_at m.nodes n
+  reported_context well result read none = by_case (context_at m.nodes n) refl
     where
       by_case : (o : Option Context) → context_at m.nodes n ≡ o → result ≡ context_at m.nodes n
       by_case None here = none (context_is disk next m well tree n ∙ ap (option_map context_bytes) here) ∙ sym here

@@ -5,7 +5,7 @@ use Rattle.policy_ctx.specs.declared.policy.Context.{Context}
 use Rattle.fsc_keys.specs.Keys.{key_bytes}
 use Rattle.fsc_keys.specs.declared.file_keys.KeyKind.TheVariants.{Names}
 use Rattle.name_crypt.specs.declared.cipher.NameCipher.{NameCipher}
-use Rattle.name_crypt.specs.declared.limits.TheConstants.{MOST_NAME_BYTES}
+use Rattle.name_crypt.specs.declared.limits.TheConstants.{MAX_NAME_BYTES}
 use Rattle.name_crypt.specs.Laws.{NamesComeBack, StoredNamesFit}
 use Rattle.name_crypt.specs.Plain.{IsPlain, IsStored}
 use Rattle.name_crypt.specs.StoredName.{plain_name, stored_name}
@@ -14,17 +14,17 @@ use Rattle.plain_tree.specs.Nodes.{Name}
 use Rattle.plain_tree.specs.NodesByNumber.{context_at}
 use Rattle.mount_model.specs.PlainMount.{PlainMount}
 use Rattle.mount_model.specs.Sealed.{node_key, node_start, sealed_name, texts}
-use Rattle.mount_model.specs.States.{is_keyed, shown, shown_under}
+use Rattle.mount_model.specs.States.{is_keyed, shown, visible_name_under}
 use Rattle.mount_state.specs.Stored.{stored_form}
 use Rattle.mount_names.specs.declared.reading.Reading.TheVariants.{Plain, Keyed, Locked}
-use Rattle.mount_names.specs.Shown.{ShowsAs}
+use Rattle.mount_names.specs.VisibleNames.{ShowsAs}
 use Rattle.mount_names.specs.NameCiphers.{names_cipher}
 
 module _ (m : PlainMount) (n : ℕ) (name : Name) (plain : IsPlain name) where
   pub plain_shows : context_at m.nodes n ≡ None → ShowsAs Plain (stored_form m.raws n (context_at m.nodes n) name) (shown m n name)
   plain_shows none =
       let as_it_is : stored_form m.raws n (context_at m.nodes n) name ≡ name = ap (λ o. stored_form m.raws n o name) none in
-      (ap (shown_under m n name) none ∙ sym as_it_is, subst (λ x. length x ≤ MOST_NAME_BYTES) (sym as_it_is) plain.1)
+      (ap (visible_name_under m n name) none ∙ sym as_it_is, subst (λ x. length x ≤ MAX_NAME_BYTES) (sym as_it_is) plain.1)
 
   module _ (fits : StoredNamesFit) (c : Context) (here : context_at m.nodes n ≡ Some c) where
     sealed : stored_form m.raws n (context_at m.nodes n) name ≡ sealed_name m.raws n c name
@@ -40,7 +40,7 @@ module _ (m : PlainMount) (n : ℕ) (name : Name) (plain : IsPlain name) where
 
     pub locked_shows : is_keyed m n ≡ false → ShowsAs Locked (stored_form m.raws n (context_at m.nodes n) name) (shown m n name)
     locked_shows locked = (
-      ap (shown_under m n name) here ∙ ap (λ b. cond b name (texts m.raws n c name)) locked ∙ text_of ∙ ap nokey_text_of (sym sealed),
+      ap (visible_name_under m n name) here ∙ ap (λ b. cond b name (texts m.raws n c name)) locked ∙ text_of ∙ ap nokey_text_of (sym sealed),
       subst IsStored (sym sealed) sealed_fits,
     )
 
@@ -55,7 +55,7 @@ module _ (m : PlainMount) (n : ℕ) (name : Name) (plain : IsPlain name) where
     pub keyed_shows : NamesComeBack → is_keyed m n ≡ true → (cipher : NameCipher) → cipher ≡ names_cipher m.raws n c → AreBytes cipher.key → AreBytes name
         → ShowsAs (Keyed cipher) (stored_form m.raws n (context_at m.nodes n) name) (shown m n name)
     keyed_shows back keyed cipher is ranged bytes =
-        let as_it_is : shown m n name ≡ name = ap (shown_under m n name) here ∙ ap (λ b. cond b name (texts m.raws n c name)) keyed in
+        let as_it_is : shown m n name ≡ name = ap (visible_name_under m n name) here ∙ ap (λ b. cond b name (texts m.raws n c name)) keyed in
         let same : plain_name cipher.key cipher.start (sealed_name m.raws n c name) ≡ name
         = ap (λ (x : NameCipher). plain_name x.key x.start (sealed_name m.raws n c name)) is ∙ comes_back back (subst (λ (x : NameCipher). AreBytes x.key) is ranged) bytes in (
           as_it_is ∙ sym same ∙ ap (plain_name cipher.key cipher.start) (sym sealed),

@@ -15,9 +15,9 @@ use Rattle.mount_model.specs.Walk.{PathParts}
 use Rattle.mount_model.specs.EntryPaths.{is_root, last_part, parent}
 use Rattle.mount_model.specs.SoundNodes.{IsName}
 use Rattle.mount_state.specs.Stored.{stored_form}
-use Rattle.mount_state.specs.StandsFor.{StandsFor}
+use Rattle.mount_state.specs.Represents.{Represents}
 use Rattle.mount_state.specs.declared.state.MountState.{MountState}
-use Rattle.mount_names.specs.Found.{form_in}
+use Rattle.mount_names.specs.FoundEntries.{form_in}
 use Rattle.mount_names.specs.Places.{Place}
 
 -- in the mount the place's directory can get the name, and the place has its stored form
@@ -46,7 +46,7 @@ pub record IsNewName (m : PlainMount) (d : ℕ) (name : Name) (place : Place) : 
 -- a name is asked for in a directory of the mount that is keyed and has this context
 pub record IsAskedIn (s : MountState) (m : PlainMount) (d : ℕ) (held : Option Context)
     (name : Name) : Type 0 where
-  pub stands : StandsFor s m
+  pub represents : Represents s m
   pub is_dir : is_dir_at m.nodes d ≡ true
   pub named : IsName name
   pub keyed : is_keyed m d ≡ true

@@ -1,6 +1,6 @@
 -- The entry that a call finds and the place for a name, each with the stored name, and the buffer for one.
 use Rattle.std.specs.Prelude.{◌≡◌, ℕ, List, Option, replicate}
-use Rattle.name_crypt.specs.declared.limits.TheConstants.{MOST_NAME_BYTES}
+use Rattle.name_crypt.specs.declared.limits.TheConstants.{MAX_NAME_BYTES}
 use Rattle.policy_ctx.specs.declared.policy.Context.{Context}
 
 -- an entry: its directory, the stored name, and the node that it resolves to
@@ -17,4 +17,4 @@ pub record Place : Type 0 where
 
 -- no name is in the buffer yet: it is all zeros
 abbrev pub IsBlank : List ℕ → Type 0
-IsBlank room = room ≡ replicate MOST_NAME_BYTES 0
+IsBlank room = room ≡ replicate MAX_NAME_BYTES 0

@@ -6,8 +6,8 @@ ghost use Rattle.disk_tree.specs.DiskTree.{IsDirAt};
 ghost use Rattle.fsc_keys.specs.declared.file_keys.KeyKind.TheVariants.{Names};
 ghost use Rattle.key_ring.specs.Holding.{HoldsClaimedSecrets};
 ghost use Rattle.mount_state.specs.StoredKinds.{is_of_kind};
-ghost use Rattle.mount_state.specs.NamesKey.{cached_key, drawn_key};
-ghost use Rattle.mount_names.specs.Shown.{IsCipherOf};
+ghost use Rattle.mount_state.specs.NamesKey.{cached_key, derived_file_key};
+ghost use Rattle.mount_names.specs.VisibleNames.{IsCipherOf};
 ghost use Rattle.mount_names.specs.NameCiphers.{cipher_with};
 
 use byte_words::slice_is_bytes;
@@ -25,7 +25,7 @@ pub(crate) fn cipher_of(state: &MountState, number: u32, context: &Context) -> O
     if state.disk.is_dir(number) {
         return dir_cipher(state, number, context);
     }
-    drawn_cipher(state, number, context)
+    derived_cipher(state, number, context)
 }
 
 // Returns the cipher of a directory: under the key that is cached for it, else under a derived key.
@@ -36,18 +36,22 @@ fn dir_cipher(state: &MountState, dir: u32, context: &Context) -> Option<NameCip
 {
     match cached_key(state, dir, context) {
         Some(key) => cipher_under(key, dir, context),
-        None => drawn_cipher(state, dir, context),
+        None => derived_cipher(state, dir, context),
     }
 }
 
 // Returns the cipher under a key that is derived from the secret, or `None` if no user has a claim.
-pub(crate) fn drawn_cipher(state: &MountState, number: u32, context: &Context) -> Option<NameCipher>
+pub(crate) fn derived_cipher(
+    state: &MountState,
+    number: u32,
+    context: &Context,
+) -> Option<NameCipher>
     ensures value { result ≡ option_map (cipher_with number context.now)
-        (drawn_key state.now.ring context.now) }
+        (derived_file_key state.now.ring context.now) }
     ensures claimed { HoldsClaimedSecrets state.now.ring }
     ensures ranged { IfSome result (λ cipher. AreBytes cipher.key) }
 {
-    match drawn_key(state, context) {
+    match derived_file_key(state, context) {
         Some(mut key) => {
             let cipher = cipher_under(&key, number, context);
             key.wipe();
@@ -68,14 +72,14 @@ fn cached_key<'a>(state: &'a MountState, number: u32, context: &Context) -> Opti
 }
 
 // Returns the same key, derived from the secret, if a user has a claim.
-pub(crate) fn drawn_key(state: &MountState, context: &Context) -> Option<FileKey>
-    ensures value { result ≡ drawn_key state.now.ring context.now }
+pub(crate) fn derived_file_key(state: &MountState, context: &Context) -> Option<FileKey>
+    ensures value { result ≡ derived_file_key state.now.ring context.now }
     ensures kind { IfSome result (λ key. is_of_kind Names key ≡ true) }
     ensures claimed { HoldsClaimedSecrets state.now.ring }
 {
     let _claims = state.ring.claims();
     let mut key = FileKey::zeros(KeyKind::Names);
-    if state.draw_key(context, &mut key) {
+    if state.derive_name_key(context, &mut key) {
         return Some(key);
     }
     None

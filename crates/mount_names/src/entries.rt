@@ -8,21 +8,21 @@ ghost use Rattle.number_map.specs.Numbered.{get};
 ghost use Rattle.plain_tree.specs.NodesByNumber.{is_dir_at};
 ghost use Rattle.mount_model.specs.PlainMount.{PlainMount};
 ghost use Rattle.mount_model.specs.States.{is_keyed};
-ghost use Rattle.mount_model.specs.Walk.{found};
+ghost use Rattle.mount_model.specs.Walk.{visible_entry};
 ghost use Rattle.mount_model.specs.EntryPaths.{last_part};
-ghost use Rattle.mount_state.specs.Led.{is_text_of};
+ghost use Rattle.mount_state.specs.Resolution.{is_text_of};
 ghost use Rattle.mount_state.specs.SameButCaches.{SameButCaches, StaysFor};
-ghost use Rattle.mount_state.specs.StandsFor.{StandsFor};
-ghost use Rattle.mount_names.specs.Found.{IsEntryOn, IsStoredFor, entry_end, entry_sought};
+ghost use Rattle.mount_state.specs.Represents.{Represents};
+ghost use Rattle.mount_names.specs.FoundEntries.{IsEntryOn, IsStoredFor, entry_end, entry_for_part};
 ghost use Rattle.mount_names.specs.Places.{IsBlank};
-ghost use Rattle.name_crypt.specs.declared.limits.TheConstants.{MOST_NAME_BYTES};
+ghost use Rattle.name_crypt.specs.declared.limits.TheConstants.{MAX_NAME_BYTES};
 
-use crate::contexts::context_told;
-use crate::stored_names::{NameRoom, stored_as};
+use crate::contexts::reported_context;
+use crate::stored_names::{NameBuffer, stored_as};
 use disk_tree::{Body, DirEntries, StoredNode};
 use mount_model::{Path, Refusal};
-use mount_state::{MountState, entry_shown_as, last_bytes, walked_parent};
-use name_crypt::{MOST_NAME_BYTES, Steps, is_plain, names_come_back, shown_by};
+use mount_state::{MountState, entry_of_visible_name, last_bytes, walked_parent};
+use name_crypt::{MAX_NAME_BYTES, Steps, is_plain, names_come_back, shown_by};
 use std::alloc::Global;
 use std::marker::Model;
 use std::sync::ledger::Ledger;
@@ -50,15 +50,15 @@ pub(crate) fn entry_at<'a, L: Ledger>(
     state: &mut MountState,
     path: &'a Path,
     by_name: bool,
-    room: &'a mut NameRoom,
+    room: &'a mut NameBuffer,
     steps: &mut Steps<L>,
 ) -> Result<Entry<'a>, Refusal>
     requires some { 1 ≤ length path.now }
     requires blank { IsBlank room.old }
-    ensures value { (m : PlainMount) → StandsFor state.old m → result ≡ entry_end by_name m path.now }
+    ensures value { (m : PlainMount) → Represents state.old m → result ≡ entry_end by_name m path.now }
     ensures there { IfOk result (IsEntryOn state.old.disk) }
-    ensures short { OnOk result (length (last_part path.now) ≤ MOST_NAME_BYTES) }
-    ensures stands { StaysFor state.old state.new }
+    ensures short { OnOk result (length (last_part path.now) ≤ MAX_NAME_BYTES) }
+    ensures represents { StaysFor state.old state.new }
     ensures same { SameButCaches state.old state.new }
     ensures ticks { steps.new ≤ steps.old + length path.now }
 {
@@ -75,12 +75,12 @@ fn entry_in<'a, L: Ledger>(
     dir: u32,
     part: &'a [u8],
     by_name: bool,
-    room: &'a mut NameRoom,
+    room: &'a mut NameBuffer,
     steps: &mut Steps<L>,
 ) -> Result<Entry<'a>, Refusal>
     requires { IsBlank room.old }
-    ensures found { (m : PlainMount) → StandsFor state.now m → is_dir_at m.nodes dir ≡ true
-        → result ≡ entry_sought by_name m part.now dir }
+    ensures found { (m : PlainMount) → Represents state.now m → is_dir_at m.nodes dir ≡ true
+        → result ≡ entry_for_part by_name m part.now dir }
     ensures there { IfOk result (IsEntryOn state.now.disk) }
     ensures ticks { steps.new ≤ steps.old + 1 }
 {
@@ -122,14 +122,14 @@ fn stored_shown<'a, L: Ledger>(
     node: &StoredNode,
     keyed: bool,
     part: &'a [u8],
-    room: &'a mut NameRoom,
+    room: &'a mut NameBuffer,
     steps: &mut Steps<L>,
 ) -> Option<&'a [u8]>
     requires there { get state.now.disk dir ≡ Some node.now }
     requires blank { IsBlank room.old }
-    ensures named { (m : PlainMount) → StandsFor state.now m → is_dir_at m.nodes dir ≡ true
+    ensures named { (m : PlainMount) → Represents state.now m → is_dir_at m.nodes dir ≡ true
         → keyed ≡ is_keyed m dir
-        → IsStoredFor state.now.disk m dir (found m dir part.now) (option_copied result) }
+        → IsStoredFor state.now.disk m dir (visible_entry m dir part.now) (option_copied result) }
     ensures ticks { steps.new ≤ steps.old + 1 }
 {
     // That names are stored alike only if they are the same, and in 16 to 255 bytes.
@@ -140,14 +140,14 @@ fn stored_shown<'a, L: Ledger>(
     if !is_plain(part) {
         return None;
     }
-    let context = context_told(state, dir, node);
+    let context = reported_context(state, dir, node);
     stored_as(state, dir, &context, part, room, steps)
 }
 
 // Returns the first stored name of the directory that has the text. Not inlined: the usual path would
 // reserve stack space for it.
 #[inline(never)]
-fn stored_by_text<'a>(node: &StoredNode, text: &[u8], room: &'a mut NameRoom) -> Option<&'a [u8]>
+fn stored_by_text<'a>(node: &StoredNode, text: &[u8], room: &'a mut NameBuffer) -> Option<&'a [u8]>
     ensures { option_copied result
         ≡ option_map (λ e. e.0) (lookup_entry (is_text_of text.now) (entries_of node.now.body)) }
 {
@@ -158,7 +158,7 @@ fn stored_by_text<'a>(node: &StoredNode, text: &[u8], room: &'a mut NameRoom) ->
 }
 
 // The same among these entries.
-fn name_by_text<'a>(entries: &DirEntries, text: &[u8], room: &'a mut NameRoom) -> Option<&'a [u8]>
+fn name_by_text<'a>(entries: &DirEntries, text: &[u8], room: &'a mut NameBuffer) -> Option<&'a [u8]>
     ensures { option_copied result
         ≡ option_map (λ e. e.0) (lookup_entry (is_text_of text.now) entries.now) }
 {
@@ -167,15 +167,15 @@ fn name_by_text<'a>(entries: &DirEntries, text: &[u8], room: &'a mut NameRoom) -
     let Some(shown) = shown_by(text) else {
         return None;
     };
-    match entry_shown_as(entries, shown.bytes()) {
+    match entry_of_visible_name(entries, shown.bytes()) {
         Some((stored, _number)) => Some(put(stored, room)),
         None => None,
     }
 }
 
 // Returns the name, copied to the buffer.
-fn put<'a>(name: &[u8], room: &'a mut NameRoom) -> &'a [u8]
-    requires { length name.now ≤ MOST_NAME_BYTES }
+fn put<'a>(name: &[u8], room: &'a mut NameBuffer) -> &'a [u8]
+    requires { length name.now ≤ MAX_NAME_BYTES }
     ensures { result.now ≡ name.now }
 {
     let len = name.len();

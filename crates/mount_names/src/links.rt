@@ -3,10 +3,10 @@
 ghost use Rattle.std.specs.Prelude.{◌+◌, ◌≤◌, length};
 ghost use Rattle.number_map.specs.Numbered.{get};
 ghost use Rattle.mount_model.specs.PlainMount.{PlainMount};
-ghost use Rattle.mount_model.specs.LookAnswers.{answer_to_read_link, target_told};
+ghost use Rattle.mount_model.specs.LookAnswers.{answer_to_read_link, target_answer};
 ghost use Rattle.mount_state.specs.SameButCaches.{SameButCaches};
-ghost use Rattle.mount_state.specs.StandsFor.{StandsFor};
-ghost use Rattle.mount_state.specs.Given.{IsGivenOrNoMemory, IsToldOrNoMemory, IsRefusedAsDue};
+ghost use Rattle.mount_state.specs.Represents.{Represents};
+ghost use Rattle.mount_state.specs.AnswerOf.{IsAnswerOrNoMemory, IsReplyOrNoMemory, IsExpectedRefusal};
 
 use crate::reading::reading_of;
 use disk_tree::Body;
@@ -26,25 +26,25 @@ pub fn read_link<L: Ledger>(
     path: &Path,
     steps: &mut Steps<L>,
 ) -> Reply
-    ensures stands { (m : PlainMount) → StandsFor state.old m
-        → IsGivenOrNoMemory m (answer_to_read_link m path.now) result state.new }
-    ensures due { (m : PlainMount) → StandsFor state.old m
-        → IsRefusedAsDue (answer_to_read_link m path.now) result }
+    ensures represents { (m : PlainMount) → Represents state.old m
+        → IsAnswerOrNoMemory m (answer_to_read_link m path.now) result state.new }
+    ensures due { (m : PlainMount) → Represents state.old m
+        → IsExpectedRefusal (answer_to_read_link m path.now) result }
     ensures same { SameButCaches state.old state.new }
     ensures ticks { steps.new ≤ steps.old + length path.now }
 {
     match walked_node(alloc, state, path, steps) {
-        Ok(number) => link_told(alloc, state, number),
+        Ok(number) => link_reply(alloc, state, number),
         Err(refusal) => Reply::Refused(refusal),
     }
 }
 
 // Returns the reply to reading the node as a symlink.
-fn link_told(alloc: Global, state: &MountState, number: u32) -> Reply
-    ensures told { (m : PlainMount) → StandsFor state.now m
-        → IsToldOrNoMemory (target_told m number (get m.nodes number)).reply result }
-    ensures due { (m : PlainMount) → StandsFor state.now m
-        → IsRefusedAsDue (target_told m number (get m.nodes number)) result }
+fn link_reply(alloc: Global, state: &MountState, number: u32) -> Reply
+    ensures told { (m : PlainMount) → Represents state.now m
+        → IsReplyOrNoMemory (target_answer m number (get m.nodes number)).reply result }
+    ensures due { (m : PlainMount) → Represents state.now m
+        → IsExpectedRefusal (target_answer m number (get m.nodes number)) result }
 {
     let Some(node) = state.disk.node(number) else {
         return Reply::Refused(Refusal::NotFound);
@@ -62,7 +62,7 @@ fn link_told(alloc: Global, state: &MountState, number: u32) -> Reply
 
 // Returns the bytes as a target, or NoMemory.
 fn copied(alloc: Global, bytes: &[u8]) -> Reply
-    ensures { IsToldOrNoMemory (Reply.Target bytes.now) result }
+    ensures { IsReplyOrNoMemory (Reply.Target bytes.now) result }
 {
     match Vec::from_slice(alloc, bytes) {
         Ok(copy) => Reply::Target(Bytes::from_vec(copy)),

@@ -4,16 +4,16 @@ ghost use Rattle.std.specs.Prelude.{◌≡◌, ◌+◌, ◌≤◌, List, length,
 ghost use Rattle.std.specs.List.{AllZip};
 ghost use Rattle.mount_model.specs.ListAnswers.{answer_to_list, page_at};
 ghost use Rattle.mount_model.specs.PlainMount.{PlainMount};
-ghost use Rattle.mount_state.specs.Given.{IsGivenOrNoMemory, IsToldOrNoMemory, IsRefusedAsDue};
+ghost use Rattle.mount_state.specs.AnswerOf.{IsAnswerOrNoMemory, IsReplyOrNoMemory, IsExpectedRefusal};
 ghost use Rattle.mount_state.specs.SameButCaches.{SameButCaches};
-ghost use Rattle.mount_state.specs.StandsFor.{StandsFor};
-ghost use Rattle.mount_names.specs.Listed.{names_of, TellsPage};
-ghost use Rattle.mount_names.specs.Shown.{ShowsAs};
+ghost use Rattle.mount_state.specs.Represents.{Represents};
+ghost use Rattle.mount_names.specs.NamePages.{names_of, IsPageOf};
+ghost use Rattle.mount_names.specs.VisibleNames.{ShowsAs};
 ghost use Rattle.plain_tree.specs.Nodes.{Name};
 
 use crate::packed_names::PackedNames;
 use crate::pages::page_of;
-use crate::reading::{Reading, push_shown, reading_of};
+use crate::reading::{Reading, push_visible_name, reading_of};
 use disk_tree::{Body, DirEntries};
 use mount_model::{Path, Refusal, Reply};
 use mount_state::{MountState, walked_node};
@@ -22,7 +22,7 @@ use std::alloc::{AllocError, Global};
 use std::sync::ledger::Ledger;
 
 /// Returns the visible names of the directory at the end of the path, in the order of their bytes: at most
-/// `MOST_LISTED` from number `start` on, counted from 0, and whether further ones follow. Refused as the
+/// `MAX_LISTED` from number `start` on, counted from 0, and whether further ones follow. Refused as the
 /// walk is, then with NotDir, and with NoMemory if there is no memory for the names.
 ///
 /// Names are encrypted only on the walk. In a directory that is plain or locked nothing is decrypted. In a
@@ -34,24 +34,24 @@ pub fn list<L: Ledger>(
     start: u32,
     steps: &mut Steps<L>,
 ) -> Reply
-    ensures stands { (m : PlainMount) → StandsFor state.old m
-        → IsGivenOrNoMemory m (answer_to_list m path.now start) result state.new }
-    ensures due { (m : PlainMount) → StandsFor state.old m
-        → IsRefusedAsDue (answer_to_list m path.now start) result }
+    ensures represents { (m : PlainMount) → Represents state.old m
+        → IsAnswerOrNoMemory m (answer_to_list m path.now start) result state.new }
+    ensures due { (m : PlainMount) → Represents state.old m
+        → IsExpectedRefusal (answer_to_list m path.now start) result }
     ensures same { SameButCaches state.old state.new }
     ensures ticks { steps.new ≤ steps.old + length path.now }
 {
     match walked_node(alloc, state, path, steps) {
-        Ok(number) => page_told(alloc, state, number, start),
+        Ok(number) => page_reply(alloc, state, number, start),
         Err(refusal) => Reply::Refused(refusal),
     }
 }
 
 // Returns the page of the directory's names.
-fn page_told(alloc: Global, state: &MountState, dir: u32, start: u32) -> Reply
-    ensures told { (m : PlainMount) → StandsFor state.now m
-        → IsToldOrNoMemory (page_at m start dir).reply result }
-    ensures due { (m : PlainMount) → StandsFor state.now m → IsRefusedAsDue (page_at m start dir) result }
+fn page_reply(alloc: Global, state: &MountState, dir: u32, start: u32) -> Reply
+    ensures told { (m : PlainMount) → Represents state.now m
+        → IsReplyOrNoMemory (page_at m start dir).reply result }
+    ensures due { (m : PlainMount) → Represents state.now m → IsExpectedRefusal (page_at m start dir) result }
 {
     let Some(node) = state.disk.node(dir) else {
         return Reply::Refused(Refusal::NotDir);
@@ -75,7 +75,7 @@ fn page_read(
     entries: &DirEntries,
     start: u32,
 ) -> Result<Reply, AllocError>
-    ensures { IfOk result (TellsPage reading.now entries.now start) }
+    ensures { IfOk result (IsPageOf reading.now entries.now start) }
 {
     if let Reading::Plain = reading {
         let mut names = stored_names(alloc, entries)?;
@@ -108,7 +108,7 @@ fn shown_names(
 {
     let mut shown = PackedNames::new(alloc, entries.len())?;
     'each: for entry in entries.iter() {
-        push_shown(&mut shown, reading, entry.0.as_slice())?;
+        push_visible_name(&mut shown, reading, entry.0.as_slice())?;
     }
     Ok(shown)
 }

@@ -8,19 +8,19 @@ ghost use Rattle.disk_tree.specs.Nodes.{blocks_of};
 ghost use Rattle.mount_model.specs.Carried.{IsPath};
 ghost use Rattle.mount_model.specs.ClaimHistory.{is_refused};
 ghost use Rattle.mount_model.specs.NameAnswers.{answer_to_make};
-ghost use Rattle.mount_model.specs.NewNodes.{inherited};
+ghost use Rattle.mount_model.specs.NewNodes.{inherited_context};
 ghost use Rattle.mount_model.specs.PlainMount.{PlainMount};
 ghost use Rattle.mount_state.specs.SameButCaches.{SameButCaches};
-ghost use Rattle.mount_state.specs.StandsFor.{StandsFor};
-ghost use Rattle.mount_state.specs.Given.{IsGivenOrNoMemory, IsRefusedAsDue};
-ghost use Rattle.mount_names.specs.Made.{MakesAt};
+ghost use Rattle.mount_state.specs.Represents.{Represents};
+ghost use Rattle.mount_state.specs.AnswerOf.{IsAnswerOrNoMemory, IsExpectedRefusal};
+ghost use Rattle.mount_names.specs.NewEntries.{MakesAt};
 ghost use Rattle.mount_names.specs.SameButTree.{SameButTree};
 
 use crate::places::{Place, place_at};
 use disk_tree::{BlockList, Body, DirEntries, StoredNode};
 use mount_model::{Path, Refusal, Reply};
 use mount_state::MountState;
-use name_crypt::{MOST_NAME_BYTES, Steps};
+use name_crypt::{MAX_NAME_BYTES, Steps};
 use policy_ctx::{CONTEXT_LEN, Context, encode_context};
 use std::alloc::Global;
 use std::sync::ledger::Ledger;
@@ -37,15 +37,15 @@ pub fn mkdir<L: Ledger>(
     nonce: &[u8; 16],
     steps: &mut Steps<L>,
 ) -> Reply
-    ensures stands { (m : PlainMount) → StandsFor state.old m → IsPath path.now
-        → IsGivenOrNoMemory m (answer_to_make m path.now nonce.now (node.Dir [])) result state.new }
-    ensures due { (m : PlainMount) → StandsFor state.old m → IsPath path.now
-        → IsRefusedAsDue (answer_to_make m path.now nonce.now (node.Dir [])) result }
+    ensures represents { (m : PlainMount) → Represents state.old m → IsPath path.now
+        → IsAnswerOrNoMemory m (answer_to_make m path.now nonce.now (node.Dir [])) result state.new }
+    ensures due { (m : PlainMount) → Represents state.old m → IsPath path.now
+        → IsExpectedRefusal (answer_to_make m path.now nonce.now (node.Dir [])) result }
     ensures refused { is_refused result ≡ true → SameButCaches state.old state.new }
     ensures same { SameButTree state.old state.new }
     ensures ticks { steps.new ≤ steps.old + length path.now }
 {
-    let mut room = [0; MOST_NAME_BYTES];
+    let mut room = [0; MAX_NAME_BYTES];
     match place_at(alloc, state, path, false, &mut room, steps) {
         Ok(place) => make(alloc, state, &place, nonce, empty_dir(alloc)),
         Err(refusal) => Reply::Refused(refusal),
@@ -60,15 +60,15 @@ pub fn create<L: Ledger>(
     nonce: &[u8; 16],
     steps: &mut Steps<L>,
 ) -> Reply
-    ensures stands { (m : PlainMount) → StandsFor state.old m → IsPath path.now
-        → IsGivenOrNoMemory m (answer_to_make m path.now nonce.now (node.File [])) result state.new }
-    ensures due { (m : PlainMount) → StandsFor state.old m → IsPath path.now
-        → IsRefusedAsDue (answer_to_make m path.now nonce.now (node.File [])) result }
+    ensures represents { (m : PlainMount) → Represents state.old m → IsPath path.now
+        → IsAnswerOrNoMemory m (answer_to_make m path.now nonce.now (node.File [])) result state.new }
+    ensures due { (m : PlainMount) → Represents state.old m → IsPath path.now
+        → IsExpectedRefusal (answer_to_make m path.now nonce.now (node.File [])) result }
     ensures refused { is_refused result ≡ true → SameButCaches state.old state.new }
     ensures same { SameButTree state.old state.new }
     ensures ticks { steps.new ≤ steps.old + length path.now }
 {
-    let mut room = [0; MOST_NAME_BYTES];
+    let mut room = [0; MAX_NAME_BYTES];
     match place_at(alloc, state, path, false, &mut room, steps) {
         Ok(place) => make(alloc, state, &place, nonce, empty_file(alloc)),
         Err(refusal) => Reply::Refused(refusal),
@@ -103,7 +103,7 @@ pub(crate) fn make(
     requires dir { IsDirAt state.old.disk place.now.dir }
     requires room { state.old.next_node + 1 < 2 ^ 32 }
     requires no_blocks { blocks_of body ≡ [] }
-    ensures stands { MakesAt state.old state.new place.now nonce.now body result }
+    ensures represents { MakesAt state.old state.new place.now nonce.now body result }
     ensures refused { is_refused result ≡ true → SameButCaches state.old state.new }
     ensures same { SameButTree state.old state.new }
 {
@@ -115,7 +115,7 @@ pub(crate) fn make(
     };
     match state
         .disk
-        .add_named(alloc, place.dir, place.stored, number, node)
+        .add_node_and_entry(alloc, place.dir, place.stored, number, node)
     {
         Ok(()) => {
             state.next_node = number + 1;
@@ -127,7 +127,7 @@ pub(crate) fn make(
 
 // Returns the context of a node that is made there: the policy of the directory, and its own nonce.
 pub(crate) fn context_of_new(place: &Place, nonce: &[u8; 16]) -> Option<Context>
-    ensures { result ≡ inherited nonce.now place.now.context }
+    ensures { result ≡ inherited_context nonce.now place.now.context }
 {
     match &place.context {
         Some(context) => Some(Context {

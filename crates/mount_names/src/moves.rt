@@ -6,24 +6,24 @@ ghost use Rattle.plain_tree.specs.Nodes.{Name};
 ghost use Rattle.mount_model.specs.Carried.{IsPath};
 ghost use Rattle.mount_model.specs.ClaimHistory.{is_refused};
 ghost use Rattle.mount_model.specs.PlainMount.{PlainMount};
-ghost use Rattle.mount_model.specs.Answered.{refused};
+ghost use Rattle.mount_model.specs.AnswerForms.{refusal_with};
 ghost use Rattle.mount_model.specs.RenameAnswer.{answer_to_move_from, answer_to_rename};
 ghost use Rattle.mount_state.specs.SameButCaches.{SameButCaches, StaysFor};
-ghost use Rattle.mount_state.specs.StandsFor.{StandsFor};
-ghost use Rattle.mount_names.specs.Found.{IsEntryOn};
-ghost use Rattle.mount_state.specs.Given.{IsGivenOrNoMemory, IsRefusedAsDue};
-ghost use Rattle.mount_names.specs.Moved.{IsTargetAt, Moves, RefusesAsDue, Renames};
-ghost use Rattle.mount_names.specs.Removed.{IsEntryOf};
+ghost use Rattle.mount_state.specs.Represents.{Represents};
+ghost use Rattle.mount_names.specs.FoundEntries.{IsEntryOn};
+ghost use Rattle.mount_state.specs.AnswerOf.{IsAnswerOrNoMemory, IsExpectedRefusal};
+ghost use Rattle.mount_names.specs.Moves.{IsTargetAt, Moves, RefusesAsModel, Renames};
+ghost use Rattle.mount_names.specs.Removals.{IsEntryOf};
 ghost use Rattle.mount_names.specs.SameButTree.{SameButTree};
 ghost use Rattle.mount_names.specs.Places.{IsBlank};
 
 use crate::entries::{Entry, entry_at};
 use crate::places::Place;
-use crate::stored_names::NameRoom;
+use crate::stored_names::NameBuffer;
 use crate::targets::target_in;
 use mount_model::{Path, Refusal, Reply};
-use mount_state::{MountState, last_bytes, walked_parent_past};
-use name_crypt::{MOST_NAME_BYTES, Steps};
+use mount_state::{MountState, last_bytes, walk_parent_past};
+use name_crypt::{MAX_NAME_BYTES, Steps};
 use std::alloc::Global;
 use std::sync::ledger::Ledger;
 
@@ -47,10 +47,10 @@ pub fn rename<L: Ledger>(
     new_path: &Path,
     steps: &mut Steps<L>,
 ) -> Reply
-    ensures stands { (m : PlainMount) → StandsFor state.old m → IsPath old_path.now → IsPath new_path.now
-        → IsGivenOrNoMemory m (answer_to_rename m old_path.now new_path.now) result state.new }
-    ensures due { (m : PlainMount) → StandsFor state.old m → IsPath old_path.now → IsPath new_path.now
-        → IsRefusedAsDue (answer_to_rename m old_path.now new_path.now) result }
+    ensures represents { (m : PlainMount) → Represents state.old m → IsPath old_path.now → IsPath new_path.now
+        → IsAnswerOrNoMemory m (answer_to_rename m old_path.now new_path.now) result state.new }
+    ensures due { (m : PlainMount) → Represents state.old m → IsPath old_path.now → IsPath new_path.now
+        → IsExpectedRefusal (answer_to_rename m old_path.now new_path.now) result }
     ensures refused { is_refused result ≡ true → SameButCaches state.old state.new }
     ensures same { SameButTree state.old state.new }
     ensures ticks { steps.new ≤ steps.old + length old_path.now + length new_path.now }
@@ -58,7 +58,7 @@ pub fn rename<L: Ledger>(
     if old_path.is_empty() || new_path.is_empty() {
         return Reply::Refused(Refusal::Inval);
     }
-    let mut room = [0; MOST_NAME_BYTES];
+    let mut room = [0; MAX_NAME_BYTES];
     match entry_at(alloc, state, old_path, true, &mut room, steps) {
         Ok(entry) => rename_entry(alloc, state, &entry, last_bytes(old_path), new_path, steps),
         Err(refusal) => Reply::Refused(refusal),
@@ -76,14 +76,14 @@ fn rename_entry<L: Ledger>(
 ) -> Reply
     requires some { 1 ≤ length new_path.now }
     requires there { IsEntryOn state.old.disk entry.now }
-    requires short { length part.now ≤ MOST_NAME_BYTES }
-    ensures stands { Renames state.old state.new entry.now part.now new_path.now result }
-    ensures due { RefusesAsDue state.old entry.now new_path.now result }
+    requires short { length part.now ≤ MAX_NAME_BYTES }
+    ensures represents { Renames state.old state.new entry.now part.now new_path.now result }
+    ensures due { RefusesAsModel state.old entry.now new_path.now result }
     ensures refused { is_refused result ≡ true → SameButCaches state.old state.new }
     ensures same { SameButTree state.old state.new }
     ensures ticks { steps.new ≤ steps.old + length new_path.now }
 {
-    let mut room = [0; MOST_NAME_BYTES];
+    let mut room = [0; MAX_NAME_BYTES];
     match target_at(alloc, state, entry, new_path, &mut room, steps) {
         Ok(place) => move_to(alloc, state, entry, part, &place),
         Err(refusal) => Reply::Refused(refusal),
@@ -96,22 +96,22 @@ fn target_at<'a, L: Ledger>(
     state: &mut MountState,
     entry: &Entry,
     path: &'a Path,
-    room: &'a mut NameRoom,
+    room: &'a mut NameBuffer,
     steps: &mut Steps<L>,
 ) -> Result<Place<'a>, Refusal>
     requires some { 1 ≤ length path.now }
     requires blank { IsBlank room.old }
-    ensures refused { IfErr result (λ refusal. (m : PlainMount) (old : Name) → StandsFor state.old m
+    ensures refused { IfErr result (λ refusal. (m : PlainMount) (old : Name) → Represents state.old m
         → IsPath path.now → IsEntryOf m old entry.now
-        → answer_to_move_from m path.now entry.now.dir old entry.now.number ≡ refused m refusal) }
-    ensures placed { IfOk result (λ place. (m : PlainMount) (old : Name) → StandsFor state.old m
+        → answer_to_move_from m path.now entry.now.dir old entry.now.number ≡ refusal_with m refusal) }
+    ensures placed { IfOk result (λ place. (m : PlainMount) (old : Name) → Represents state.old m
         → IsPath path.now → IsEntryOf m old entry.now → IsTargetAt m entry.now path.now place) }
     ensures dir { IfOk result (λ place. IsDirAt state.new.disk place.dir) }
-    ensures stands { StaysFor state.old state.new }
+    ensures represents { StaysFor state.old state.new }
     ensures same { SameButCaches state.old state.new }
     ensures ticks { steps.new ≤ steps.old + length path.now }
 {
-    match walked_parent_past(alloc, state, path, entry.number, steps) {
+    match walk_parent_past(alloc, state, path, entry.number, steps) {
         Ok((dir, past)) => target_in(state, entry, dir, past, last_bytes(path), room, steps),
         Err(refusal) => Err(refusal),
     }
@@ -128,8 +128,8 @@ fn move_to(
 ) -> Reply
     requires dir { IsDirAt state.old.disk place.now.dir }
     requires there { IsEntryOn state.old.disk entry.now }
-    requires short { length part.now ≤ MOST_NAME_BYTES }
-    ensures stands { Moves state.old state.new entry.now part.now place.now result }
+    requires short { length part.now ≤ MAX_NAME_BYTES }
+    ensures represents { Moves state.old state.new entry.now part.now place.now result }
     ensures refused { is_refused result ≡ true → SameButCaches state.old state.new }
     ensures same { SameButTree state.old state.new }
 {

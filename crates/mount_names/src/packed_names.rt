@@ -4,7 +4,7 @@ ghost use Rattle.std.specs.Prelude.{◌≡◌, ◌≢◌, ◌≤◌, ◌↔◌, 
 ghost use Rattle.std.specs.Prelude.{drop, length, take};
 ghost use Rattle.name_crypt.specs.Plain.{IsStored};
 ghost use Rattle.name_crypt.specs.StoredName.{plain_name};
-ghost use Rattle.mount_names.specs.Listed.{names_of};
+ghost use Rattle.mount_names.specs.NamePages.{names_of};
 
 use name_crypt::NameCipher;
 use std::alloc::{AllocError, Global};
@@ -20,7 +20,7 @@ pub(crate) struct PackedNames {
 impl Model for PackedNames {
     ghost use Rattle.std.specs.Prelude.{◌≡◌, ℕ, List, length};
     ghost use Rattle.std.specs.List.{sum};
-    ghost use Rattle.mount_names.specs.Packed.{parts_of};
+    ghost use Rattle.mount_names.specs.PackedNames.{parts_of};
 
     ghost Value = { List (List ℕ) };
 

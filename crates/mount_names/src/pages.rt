@@ -4,23 +4,23 @@ ghost use Rattle.std.specs.Prelude.{◌≡◌, ◌≤◌, length, take, drop, If
 ghost use Rattle.std.specs.Ordering.{nat_cmp};
 ghost use Rattle.std.specs.Cmp.Lexicographic.{slice_cmp};
 ghost use Rattle.mount_model.specs.ListAnswers.{in_order};
-ghost use Rattle.mount_names.specs.Listed.{names_of, page_from};
+ghost use Rattle.mount_names.specs.NamePages.{names_of, page_from};
 
 use item_list::Bytes;
-use mount_model::limits::MOST_LISTED;
+use mount_model::limits::MAX_LISTED;
 use mount_model::{NameList, Reply};
 use std::alloc::{AllocError, Global};
 use std::cmp::Ordering;
 
-// Returns the names from number `start` on in the order of their bytes, at most `MOST_LISTED`, and whether
+// Returns the names from number `start` on in the order of their bytes, at most `MAX_LISTED`, and whether
 // further ones follow. The order in which it leaves `names` is not specified.
 pub(crate) fn page_of(alloc: Global, names: &mut [&[u8]], start: u32) -> Result<Reply, AllocError>
     ensures { IfOk result (λ told. told ≡ page_from start (names_of names.old)) }
 {
     let from = (start as usize).min(names.len());
     let rest = all_from(names, from);
-    let more = rest.len() > MOST_LISTED;
-    let count = MOST_LISTED.min(rest.len());
+    let more = rest.len() > MAX_LISTED;
+    let count = MAX_LISTED.min(rest.len());
     let page = least(rest, count);
     sort(page);
     let names = copied(alloc, page)?;

@@ -11,15 +11,15 @@ ghost use Rattle.mount_model.specs.NameAnswers as plain;
 ghost use Rattle.mount_model.specs.PlainMount.{PlainMount};
 ghost use Rattle.mount_model.specs.SoundNodes.{IsName};
 ghost use Rattle.mount_state.specs.SameButCaches.{SameButCaches, StaysFor};
-ghost use Rattle.mount_state.specs.StandsFor.{StandsFor};
-ghost use Rattle.mount_names.specs.Made.{IsPlaceRefused, IsRefusedIn};
+ghost use Rattle.mount_state.specs.Represents.{Represents};
+ghost use Rattle.mount_names.specs.NewEntries.{IsPlaceRefused, IsRefusedIn};
 ghost use Rattle.mount_names.specs.NewPlaces.{IsAskedIn, IsNewName, IsPlaceAt, IsPlaceOf};
 ghost use Rattle.mount_names.specs.Places.{IsBlank};
 
-use crate::contexts::context_told;
-use crate::stored_names::{NameRoom, shares_text, stored_as};
+use crate::contexts::reported_context;
+use crate::stored_names::{NameBuffer, shares_text, stored_as};
 use disk_tree::StoredNode;
-use mount_limits::{MOST_CHILDREN, MOST_NODES};
+use mount_limits::{MAX_CHILDREN, MAX_NODES};
 use mount_model::{Path, Refusal};
 use mount_state::{MountState, last_bytes, walked_parent};
 use name_crypt::{Steps, is_plain, names_come_back};
@@ -51,17 +51,17 @@ pub(crate) fn place_at<'a, L: Ledger>(
     state: &mut MountState,
     path: &'a Path,
     long: bool,
-    room: &'a mut NameRoom,
+    room: &'a mut NameBuffer,
     steps: &mut Steps<L>,
 ) -> Result<Place<'a>, Refusal>
     requires { IsBlank room.old }
     ensures refused { IfErr result (λ refusal. IsPlaceRefused state.old path.now long refusal) }
-    ensures placed { IfOk result (λ place. (m : PlainMount) → StandsFor state.old m → IsPath path.now
+    ensures placed { IfOk result (λ place. (m : PlainMount) → Represents state.old m → IsPath path.now
         → IsPlaceAt m path.now place) }
     ensures dir { IfOk result (λ place. IsDirAt state.new.disk place.dir) }
     ensures short { IfOk result (λ _. long ≡ false) }
     ensures room { IfOk result (λ _. state.new.next_node + 1 < 2 ^ 32) }
-    ensures stands { StaysFor state.old state.new }
+    ensures represents { StaysFor state.old state.new }
     ensures same { SameButCaches state.old state.new }
     ensures ticks { steps.new ≤ steps.old + length path.now }
 {
@@ -80,12 +80,12 @@ fn place_in<'a, L: Ledger>(
     dir: u32,
     part: &'a [u8],
     long: bool,
-    room: &'a mut NameRoom,
+    room: &'a mut NameBuffer,
     steps: &mut Steps<L>,
 ) -> Result<Place<'a>, Refusal>
     requires { IsBlank room.old }
     ensures refused { IfErr result (λ refusal. IsRefusedIn state.now dir part.now long refusal) }
-    ensures placed { IfOk result (λ place. (m : PlainMount) → StandsFor state.now m
+    ensures placed { IfOk result (λ place. (m : PlainMount) → Represents state.now m
         → is_dir_at m.nodes dir ≡ true → IsName part.now → IsPlaceOf m part.now place) }
     ensures dir { IfOk result (λ place. (place.dir ≡ dir) × IsDirAt state.now.disk dir) }
     ensures short { IfOk result (λ _. long ≡ false) }
@@ -98,7 +98,7 @@ fn place_in<'a, L: Ledger>(
     if !node.body.is_dir() {
         return Err(Refusal::NotDir);
     }
-    let context = context_told(state, dir, node);
+    let context = reported_context(state, dir, node);
     if lacks_key(state, &context) {
         return Err(Refusal::NoKey);
     }
@@ -126,7 +126,7 @@ pub(crate) fn free_place<'a, L: Ledger>(
     node: &StoredNode,
     context: Option<Context>,
     part: &'a [u8],
-    room: &'a mut NameRoom,
+    room: &'a mut NameBuffer,
     steps: &mut Steps<L>,
 ) -> Result<Place<'a>, Refusal>
     requires there { get state.now.disk dir ≡ Some node.now }
@@ -159,7 +159,7 @@ pub(crate) fn free_place<'a, L: Ledger>(
 // Whether the place's directory has a policy, and a name in it has the no-key text of the place's stored one,
 // which isn't there itself.
 pub(crate) fn clashes(state: &MountState, place: &Place) -> bool
-    ensures { (m : PlainMount) (name : Name) → StandsFor state.now m → IsName name
+    ensures { (m : PlainMount) (name : Name) → Represents state.now m → IsName name
         → IsNewName m place.now.dir name place.now → result ≡ encrypted.clashes m place.now.dir name }
 {
     match &place.context {
@@ -170,7 +170,7 @@ pub(crate) fn clashes(state: &MountState, place: &Place) -> bool
 
 // Whether the directory has a policy whose key no user has claimed.
 fn lacks_key(state: &MountState, context: &Option<Context>) -> bool
-    ensures { (m : PlainMount) → StandsFor state.now m → result ≡ encrypted.lacks_key m context.now }
+    ensures { (m : PlainMount) → Represents state.now m → result ≡ encrypted.lacks_key m context.now }
 {
     match context {
         Some(context) => state.ring.claims().count_of_id(&context.policy.id) == 0,
@@ -181,7 +181,7 @@ fn lacks_key(state: &MountState, context: &Option<Context>) -> bool
 // Whether the directory, the mount or the numbers are used up.
 fn is_full(state: &MountState, dir: u32, node: &StoredNode) -> bool
     requires { get state.now.disk dir ≡ Some node.now }
-    ensures value { (m : PlainMount) → StandsFor state.now m → result ≡ plain.is_full m dir }
+    ensures value { (m : PlainMount) → Represents state.now m → result ≡ plain.is_full m dir }
     ensures room { result ≡ false → state.now.next_node + 1 < 2 ^ 32 }
 {
     has_most_in(state, dir, node) || (has_most_nodes(state) || state.next_node == u32::MAX)
@@ -190,14 +190,14 @@ fn is_full(state: &MountState, dir: u32, node: &StoredNode) -> bool
 // Whether the directory, which was looked up, has as many entries as one may have.
 fn has_most_in(state: &MountState, dir: u32, node: &StoredNode) -> bool
     requires { get state.now.disk dir ≡ Some node.now }
-    ensures { (m : PlainMount) → StandsFor state.now m
-        → result ≡ nat_le MOST_CHILDREN (length (children m.nodes dir)) }
+    ensures { (m : PlainMount) → Represents state.now m
+        → result ≡ nat_le MAX_CHILDREN (length (children m.nodes dir)) }
 {
-    node.body.entry_count() >= MOST_CHILDREN
+    node.body.entry_count() >= MAX_CHILDREN
 }
 
 fn has_most_nodes(state: &MountState) -> bool
-    ensures { (m : PlainMount) → StandsFor state.now m → result ≡ nat_le MOST_NODES (len m.nodes) }
+    ensures { (m : PlainMount) → Represents state.now m → result ≡ nat_le MAX_NODES (len m.nodes) }
 {
-    state.disk.node_count() >= MOST_NODES
+    state.disk.node_count() >= MAX_NODES
 }

@@ -4,7 +4,7 @@ ghost use Rattle.std.specs.Prelude.{◌≡◌, ◌+◌, ◌<◌, ◌≤◌, ◌^
 ghost use Rattle.std.specs.Prelude.{OnOk, OnErr, if◌then◌else◌};
 ghost use Rattle.number_map.specs.Numbered as map;
 ghost use Rattle.user_claims.specs.ClaimCounts.{is_present};
-ghost use Rattle.inode_refs.specs.Cached.{pins_of};
+ghost use Rattle.inode_refs.specs.CacheMaps.{pins_of};
 ghost use Rattle.key_ring.specs.ModeUsers.{users_of};
 ghost use Rattle.disk_tree.specs.DiskTree.{IsDirAt};
 ghost use Rattle.mount_model.specs.Carried.{IsPath};
@@ -14,13 +14,13 @@ ghost use Rattle.mount_model.specs.PolicyAnswers as policy;
 ghost use Rattle.mount_model.specs.PolicyAnswers.{answer_to_set_at, answer_to_set_policy};
 ghost use Rattle.mount_model.specs.SpelledPolicy.{is_same_policy};
 ghost use Rattle.mount_state.specs.Contexts.{context_on_disk};
-ghost use Rattle.mount_state.specs.Given.{IsGivenOrNoMemory, IsRefusedAsDue};
+ghost use Rattle.mount_state.specs.AnswerOf.{IsAnswerOrNoMemory, IsExpectedRefusal};
 ghost use Rattle.mount_state.specs.SameButCaches.{SameButCaches};
-ghost use Rattle.mount_state.specs.StandsFor.{StandsFor};
-ghost use Rattle.mount_names.specs.Encrypted.{EncryptsAt, EncryptsOpen, SetsAt, keys_with, modes_with};
+ghost use Rattle.mount_state.specs.Represents.{Represents};
+ghost use Rattle.mount_names.specs.EncryptedDirs.{EncryptsAt, EncryptsOpen, SetsAt, keys_with, modes_with};
 ghost use Rattle.mount_names.specs.SameButTree.{SameButPolicies};
 
-use crate::ciphers::drawn_key;
+use crate::ciphers::derived_file_key;
 use crate::contexts::context_at;
 use disk_tree::DiskTree;
 use fsc_keys::{FileKey, KeyId, KeyKind};
@@ -50,10 +50,10 @@ pub fn set_policy<L: Ledger>(
     nonce: &[u8; 16],
     steps: &mut Steps<L>,
 ) -> Reply
-    ensures stands { (m : PlainMount) → StandsFor state.old m → IsPath path.now
-        → IsGivenOrNoMemory m (answer_to_set_policy m uid path.now policy.now nonce.now) result state.new }
-    ensures due { (m : PlainMount) → StandsFor state.old m
-        → IsRefusedAsDue (answer_to_set_policy m uid path.now policy.now nonce.now) result }
+    ensures represents { (m : PlainMount) → Represents state.old m → IsPath path.now
+        → IsAnswerOrNoMemory m (answer_to_set_policy m uid path.now policy.now nonce.now) result state.new }
+    ensures due { (m : PlainMount) → Represents state.old m
+        → IsExpectedRefusal (answer_to_set_policy m uid path.now policy.now nonce.now) result }
     ensures refused { is_refused result ≡ true → SameButCaches state.old state.new }
     ensures same { SameButPolicies state.old state.new }
     ensures ticks { steps.new ≤ steps.old + length path.now }
@@ -73,9 +73,9 @@ fn set_at(
     policy: &[u8; POLICY_LEN],
     nonce: &[u8; 16],
 ) -> Reply
-    ensures stands { SetsAt state.old state.new uid number policy.now nonce.now result }
-    ensures due { (m : PlainMount) → StandsFor state.old m
-        → IsRefusedAsDue (answer_to_set_at m uid policy.now nonce.now number) result }
+    ensures represents { SetsAt state.old state.new uid number policy.now nonce.now result }
+    ensures due { (m : PlainMount) → Represents state.old m
+        → IsExpectedRefusal (answer_to_set_at m uid policy.now nonce.now number) result }
     ensures refused { is_refused result ≡ true → SameButCaches state.old state.new }
     ensures same { SameButPolicies state.old state.new }
 {
@@ -124,9 +124,9 @@ fn encrypt(alloc: Global, state: &mut MountState, uid: u32, dir: u32, context: &
     requires dir { IsDirAt state.old.disk dir }
     requires sized { length context.now.policy.id.0 ≡ 16 }
     requires plain { context_on_disk (map.get state.old.disk dir) ≡ None }
-    ensures stands { EncryptsAt state.old state.new uid dir context.now result }
-    ensures due { (m : PlainMount) → StandsFor state.old m
-        → IsRefusedAsDue (policy.answer_to_encrypt m uid dir context.now None) result }
+    ensures represents { EncryptsAt state.old state.new uid dir context.now result }
+    ensures due { (m : PlainMount) → Represents state.old m
+        → IsExpectedRefusal (policy.answer_to_encrypt m uid dir context.now None) result }
     ensures refused { is_refused result ≡ true → SameButCaches state.old state.new }
     ensures same { SameButPolicies state.old state.new }
 {
@@ -158,11 +158,11 @@ fn encrypt_open(
     requires pins { handles ≡ pins_of state.old.inodes dir }
     requires some { 1 ≤ handles }
     requires present { is_present state.old.ring.claims context.now.policy.id ≡ true }
-    ensures stands { EncryptsOpen state.old state.new dir context.now result }
+    ensures represents { EncryptsOpen state.old state.new dir context.now result }
     ensures refused { is_refused result ≡ true → SameButCaches state.old state.new }
     ensures same { SameButPolicies state.old state.new }
 {
-    let Some(key) = drawn_key(state, context) else {
+    let Some(key) = derived_file_key(state, context) else {
         return Reply::Refused(Refusal::NoKey);
     };
     match hold_key(
@@ -208,7 +208,7 @@ fn hold_key(
 
 // Whether the user may use the key: user 0 if it is present, another user if they have a claim.
 fn may_use(state: &MountState, uid: u32, id: &KeyId) -> bool
-    ensures stands { (m : PlainMount) → StandsFor state.now m → result ≡ policy.may_use m uid id.now }
+    ensures represents { (m : PlainMount) → Represents state.now m → result ≡ policy.may_use m uid id.now }
     ensures present { result ≡ true → is_present state.now.ring.claims id.now ≡ true }
 {
     if uid == 0 {

@@ -4,15 +4,15 @@ ghost use Rattle.std.specs.Prelude.{◌≡◌, ◌≢◌, ◌≤◌, ℕ, List, 
 ghost use Rattle.name_crypt.specs.Plain.{IsStored};
 ghost use Rattle.name_crypt.specs.StoredName.{plain_name};
 ghost use Rattle.name_crypt.specs.NoKeyText.{nokey_text_of};
-ghost use Rattle.mount_names.specs.Shown.{ReadsAs, ShowsAs};
-ghost use Rattle.mount_names.specs.Wiped.{wiped};
+ghost use Rattle.mount_names.specs.VisibleNames.{ReadsAs, ShowsAs};
+ghost use Rattle.mount_names.specs.WipedNames.{wiped};
 
 use crate::ciphers::cipher_of;
 use crate::contexts::context_at;
 use crate::packed_names::PackedNames;
 use mount_state::MountState;
 use name_crypt::{
-    LEAST_STORED_BYTES, MOST_NAME_BYTES, NameCipher, StoredName, names_come_back, nokey_text,
+    MAX_NAME_BYTES, MIN_STORED_BYTES, NameCipher, StoredName, names_come_back, nokey_text,
 };
 use short_bytes::Filled;
 use std::alloc::AllocError;
@@ -55,12 +55,12 @@ impl Reading {
 
     // Returns the visible name of stored bytes that are the stored form of some name. Bytes that are no
     // stored name leave nothing in it.
-    pub(crate) fn shown(&self, stored: &[u8]) -> Filled<MOST_NAME_BYTES>
+    pub(crate) fn shown(&self, stored: &[u8]) -> Filled<MAX_NAME_BYTES>
         ensures { (name : List ℕ) → ShowsAs self.now stored.now name → result ≡ name }
     {
         match self {
             Reading::Plain => as_it_is(stored),
-            Reading::Keyed(cipher) => deciphered(cipher, stored),
+            Reading::Keyed(cipher) => decrypt_stored(cipher, stored),
             Reading::Locked => text_of(stored),
         }
     }
@@ -68,7 +68,7 @@ impl Reading {
 
 // Appends the visible name of stored bytes that are the stored form of some name. Bytes that are no stored
 // name are not copied.
-pub(crate) fn push_shown(
+pub(crate) fn push_visible_name(
     names: &mut PackedNames,
     reading: &Reading,
     stored: &[u8],
@@ -78,13 +78,13 @@ pub(crate) fn push_shown(
 {
     match reading {
         Reading::Plain => names.push(stored),
-        Reading::Keyed(cipher) => push_deciphered(names, cipher, stored),
+        Reading::Keyed(cipher) => push_decrypted_name(names, cipher, stored),
         Reading::Locked => names.push(text_of(stored).bytes()),
     }
 }
 
 // Appends the name of a stored one; its no-key text if decrypting it gives none.
-fn push_deciphered(
+fn push_decrypted_name(
     names: &mut PackedNames,
     cipher: &NameCipher,
     stored: &[u8],
@@ -92,7 +92,7 @@ fn push_deciphered(
     ensures { IsStored stored.now → plain_name cipher.now.key cipher.now.start stored.now ≢ []
         → OnOk result (names.new ≡ names.old ++ plain_name cipher.now.key cipher.now.start stored.now ∷ []) }
 {
-    if stored.len() < LEAST_STORED_BYTES || stored.len() > MOST_NAME_BYTES {
+    if stored.len() < MIN_STORED_BYTES || stored.len() > MAX_NAME_BYTES {
         return names.push(&[]);
     }
     if names.push_decrypted(cipher, stored)? {
@@ -102,8 +102,8 @@ fn push_deciphered(
 }
 
 // The bytes themselves.
-fn as_it_is(stored: &[u8]) -> Filled<MOST_NAME_BYTES>
-    ensures { length stored.now ≤ MOST_NAME_BYTES → result ≡ stored.now }
+fn as_it_is(stored: &[u8]) -> Filled<MAX_NAME_BYTES>
+    ensures { length stored.now ≤ MAX_NAME_BYTES → result ≡ stored.now }
 {
     match Filled::read(stored) {
         Some(name) => name,
@@ -112,7 +112,7 @@ fn as_it_is(stored: &[u8]) -> Filled<MOST_NAME_BYTES>
 }
 
 // Returns the name of a stored one; its no-key text if decrypting it gives none.
-fn deciphered(cipher: &NameCipher, stored: &[u8]) -> Filled<MOST_NAME_BYTES>
+fn decrypt_stored(cipher: &NameCipher, stored: &[u8]) -> Filled<MAX_NAME_BYTES>
     ensures { IsStored stored.now → plain_name cipher.now.key cipher.now.start stored.now ≢ []
         → result ≡ plain_name cipher.now.key cipher.now.start stored.now }
 {
@@ -126,7 +126,7 @@ fn deciphered(cipher: &NameCipher, stored: &[u8]) -> Filled<MOST_NAME_BYTES>
 }
 
 // Returns the no-key text of a stored name.
-fn text_of(stored: &[u8]) -> Filled<MOST_NAME_BYTES>
+fn text_of(stored: &[u8]) -> Filled<MAX_NAME_BYTES>
     ensures { IsStored stored.now → result ≡ nokey_text_of stored.now }
 {
     match StoredName::read(stored) {

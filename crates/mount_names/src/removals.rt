@@ -7,16 +7,16 @@ ghost use Rattle.mount_model.specs.ClaimHistory.{is_refused};
 ghost use Rattle.mount_model.specs.UnlinkAnswers.{answer_to_unlink, answer_to_rmdir};
 ghost use Rattle.mount_model.specs.PlainMount.{PlainMount};
 ghost use Rattle.mount_state.specs.SameButCaches.{SameButCaches};
-ghost use Rattle.mount_state.specs.StandsFor.{StandsFor};
-ghost use Rattle.mount_names.specs.Found.{IsEntryOn};
-ghost use Rattle.mount_state.specs.Given.{IsGiven};
-ghost use Rattle.mount_names.specs.Removed.{Drops, Unlinks, RemovesDir};
+ghost use Rattle.mount_state.specs.Represents.{Represents};
+ghost use Rattle.mount_names.specs.FoundEntries.{IsEntryOn};
+ghost use Rattle.mount_state.specs.AnswerOf.{IsAnswerOf};
+ghost use Rattle.mount_names.specs.Removals.{Drops, Unlinks, RemovesDir};
 ghost use Rattle.mount_names.specs.SameButTree.{SameButTree};
 
 use crate::entries::{Entry, entry_at};
 use mount_model::{Path, Refusal, Reply};
 use mount_state::{MountState, last_bytes};
-use name_crypt::{MOST_NAME_BYTES, Steps};
+use name_crypt::{MAX_NAME_BYTES, Steps};
 use std::alloc::Global;
 use std::sync::ledger::Ledger;
 
@@ -32,8 +32,8 @@ pub fn unlink<L: Ledger>(
     path: &Path,
     steps: &mut Steps<L>,
 ) -> Reply
-    ensures stands { (m : PlainMount) → StandsFor state.old m → IsPath path.now
-        → IsGiven (answer_to_unlink m path.now) result state.new }
+    ensures represents { (m : PlainMount) → Represents state.old m → IsPath path.now
+        → IsAnswerOf (answer_to_unlink m path.now) result state.new }
     ensures refused { is_refused result ≡ true → SameButCaches state.old state.new }
     ensures same { SameButTree state.old state.new }
     ensures ticks { steps.new ≤ steps.old + length path.now }
@@ -41,7 +41,7 @@ pub fn unlink<L: Ledger>(
     if path.is_empty() {
         return Reply::Refused(Refusal::IsDir);
     }
-    let mut room = [0; MOST_NAME_BYTES];
+    let mut room = [0; MAX_NAME_BYTES];
     match entry_at(alloc, state, path, false, &mut room, steps) {
         Ok(entry) => unlink_entry(state, &entry, last_bytes(path)),
         Err(refusal) => Reply::Refused(refusal),
@@ -58,8 +58,8 @@ pub fn rmdir<L: Ledger>(
     path: &Path,
     steps: &mut Steps<L>,
 ) -> Reply
-    ensures stands { (m : PlainMount) → StandsFor state.old m → IsPath path.now
-        → IsGiven (answer_to_rmdir m path.now) result state.new }
+    ensures represents { (m : PlainMount) → Represents state.old m → IsPath path.now
+        → IsAnswerOf (answer_to_rmdir m path.now) result state.new }
     ensures refused { is_refused result ≡ true → SameButCaches state.old state.new }
     ensures same { SameButTree state.old state.new }
     ensures ticks { steps.new ≤ steps.old + length path.now }
@@ -67,7 +67,7 @@ pub fn rmdir<L: Ledger>(
     if path.is_empty() {
         return Reply::Refused(Refusal::Inval);
     }
-    let mut room = [0; MOST_NAME_BYTES];
+    let mut room = [0; MAX_NAME_BYTES];
     match entry_at(alloc, state, path, false, &mut room, steps) {
         Ok(entry) => remove_dir(state, &entry, last_bytes(path)),
         Err(refusal) => Reply::Refused(refusal),
@@ -77,8 +77,8 @@ pub fn rmdir<L: Ledger>(
 // Drops the entry, unless it resolves to a directory.
 fn unlink_entry(state: &mut MountState, entry: &Entry, part: &[u8]) -> Reply
     requires there { IsEntryOn state.old.disk entry.now }
-    requires short { length part.now ≤ MOST_NAME_BYTES }
-    ensures stands { Unlinks state.old state.new entry.now part.now result }
+    requires short { length part.now ≤ MAX_NAME_BYTES }
+    ensures represents { Unlinks state.old state.new entry.now part.now result }
     ensures refused { is_refused result ≡ true → SameButCaches state.old state.new }
     ensures same { SameButTree state.old state.new }
 {
@@ -92,8 +92,8 @@ fn unlink_entry(state: &mut MountState, entry: &Entry, part: &[u8]) -> Reply
 // Drops the entry, if it resolves to an empty directory.
 fn remove_dir(state: &mut MountState, entry: &Entry, part: &[u8]) -> Reply
     requires there { IsEntryOn state.old.disk entry.now }
-    requires short { length part.now ≤ MOST_NAME_BYTES }
-    ensures stands { RemovesDir state.old state.new entry.now part.now result }
+    requires short { length part.now ≤ MAX_NAME_BYTES }
+    ensures represents { RemovesDir state.old state.new entry.now part.now result }
     ensures refused { is_refused result ≡ true → SameButCaches state.old state.new }
     ensures same { SameButTree state.old state.new }
 {
@@ -115,9 +115,9 @@ fn remove_dir(state: &mut MountState, entry: &Entry, part: &[u8]) -> Reply
 // cached key is removed, and then the node.
 fn drop_entry(state: &mut MountState, entry: &Entry, part: &[u8])
     requires there { IsEntryOn state.old.disk entry.now }
-    requires short { length part.now ≤ MOST_NAME_BYTES }
+    requires short { length part.now ≤ MAX_NAME_BYTES }
     requires none { HoldsNoneIn state.old.names entry.now.number }
-    ensures stands { Drops state.old state.new entry.now part.now }
+    ensures represents { Drops state.old state.new entry.now part.now }
     ensures same { SameButTree state.old state.new }
 {
     state.names.forget(entry.dir, part);
@@ -127,5 +127,5 @@ fn drop_entry(state: &mut MountState, entry: &Entry, part: &[u8])
         return;
     }
     state.inodes.drop_key(number);
-    state.disk.drop_named(entry.dir, entry.stored);
+    state.disk.remove_entry_and_node(entry.dir, entry.stored);
 }

@@ -11,25 +11,25 @@ ghost use Rattle.mount_model.specs.EncryptedNames as plain;
 ghost use Rattle.mount_model.specs.PlainMount.{PlainMount};
 ghost use Rattle.mount_model.specs.Sealed.{node_start};
 ghost use Rattle.mount_model.specs.States.{is_keyed};
-ghost use Rattle.mount_state.specs.StandsFor.{StandsFor};
+ghost use Rattle.mount_state.specs.Represents.{Represents};
 ghost use Rattle.mount_state.specs.Stored.{stored_form};
 ghost use Rattle.mount_names.specs.NewPlaces.{HasByteKey};
 ghost use Rattle.mount_names.specs.Places.{IsBlank};
 ghost use Rattle.mount_names.specs.Sealing.{SealsAs, SealsByBytes};
-ghost use Rattle.mount_names.specs.Shown.{HasNames};
+ghost use Rattle.mount_names.specs.VisibleNames.{HasNames};
 
 use crate::ciphers::cipher_of;
 use mount_state::{MountState, start_of};
 use name_crypt::{
-    Aes256, MOST_NAME_BYTES, MOST_SPELLED_BYTES, NameCipher, Plain, Steps, StoredName,
-    encrypt_into, name_iv, names_come_back, nokey_text, texts_stay_distinct,
+    Aes256, MAX_NAME_BYTES, MAX_SPELLED_BYTES, NameCipher, Plain, Steps, StoredName, encrypt_into,
+    name_iv, names_come_back, nokey_text, texts_stay_distinct,
 };
 use policy_ctx::{Context, Pad};
 use short_bytes::Filled;
 use std::sync::ledger::Ledger;
 
 /// A buffer for the longest stored name.
-pub(crate) type NameRoom = [u8; MOST_NAME_BYTES];
+pub(crate) type NameBuffer = [u8; MAX_NAME_BYTES];
 
 // Returns the stored form of the name in the directory, or of the target of the symlink: the name itself if
 // the node has no context, else its encryption, in the buffer. `None` if the key is not available.
@@ -38,15 +38,15 @@ pub(crate) fn stored_as<'a, L: Ledger>(
     number: u32,
     context: &Option<Context>,
     name: &'a [u8],
-    room: &'a mut NameRoom,
+    room: &'a mut NameBuffer,
     steps: &mut Steps<L>,
 ) -> Option<&'a [u8]>
     requires plain { IsPlain name.now }
     requires blank { IsBlank room.old }
-    ensures value { (m : PlainMount) → StandsFor state.now m → HasNames m number
+    ensures value { (m : PlainMount) → Represents state.now m → HasNames m number
         → context.now ≡ context_at m.nodes number → is_keyed m number ≡ true
         → option_copied result ≡ Some (stored_form m.raws number context.now name.now) }
-    ensures ranged { (m : PlainMount) → StandsFor state.now m → HasNames m number
+    ensures ranged { (m : PlainMount) → Represents state.now m → HasNames m number
         → context.now ≡ context_at m.nodes number → is_keyed m number ≡ true → HasByteKey m number }
     ensures ticks { steps.new ≤ steps.old + 1 }
 {
@@ -55,19 +55,19 @@ pub(crate) fn stored_as<'a, L: Ledger>(
     };
     match state.own_cipher(number, context) {
         Some(cipher) => Some(sealed(cipher, number, context, name, room, steps)),
-        None => sealed_anew(state, number, context, name, room, steps),
+        None => sealed_again(state, number, context, name, room, steps),
     }
 }
 
 // The same under this context, by a cipher that is made for this call alone. Separate from the path with a
 // cached cipher, which so reserves no stack space for round keys.
 #[inline(never)]
-fn sealed_anew<'a, L: Ledger>(
+fn sealed_again<'a, L: Ledger>(
     state: &MountState,
     number: u32,
     context: &Context,
     name: &[u8],
-    room: &'a mut NameRoom,
+    room: &'a mut NameBuffer,
     steps: &mut Steps<L>,
 ) -> Option<&'a [u8]>
     requires plain { IsPlain name.now }
@@ -88,7 +88,7 @@ fn sealed<'a, L: Ledger>(
     number: u32,
     context: &Context,
     name: &[u8],
-    room: &'a mut NameRoom,
+    room: &'a mut NameBuffer,
     steps: &mut Steps<L>,
 ) -> &'a [u8]
     requires plain { IsPlain name.now }
@@ -103,12 +103,12 @@ fn sealed<'a, L: Ledger>(
 }
 
 // The name under the cipher. `steps` counts one more.
-pub(crate) fn enciphered<L: Ledger>(
+pub(crate) fn encrypt_stored_name<L: Ledger>(
     cipher: &NameCipher,
     pad: Pad,
     name: &Plain,
     steps: &mut Steps<L>,
-) -> Filled<MOST_NAME_BYTES>
+) -> Filled<MAX_NAME_BYTES>
     ensures value { result ≡ stored_name cipher.now.key cipher.now.start pad name.now }
     ensures tick { steps.new ≡ steps.old + 1 }
 {
@@ -118,7 +118,7 @@ pub(crate) fn enciphered<L: Ledger>(
 // Whether a name in the directory, which has a policy, has the no-key text of this stored one, which isn't
 // there itself. A text that spells the whole stored name is no other name's, and then no name is read.
 pub(crate) fn shares_text(state: &MountState, dir: u32, stored: &[u8]) -> bool
-    ensures { (m : PlainMount) (c : Context) (name : Name) → StandsFor state.now m
+    ensures { (m : PlainMount) (c : Context) (name : Name) → Represents state.now m
         → context_at m.nodes dir ≡ Some c → HasByteKey m dir → IsPlain name → AreBytes name
         → stored.now ≡ stored_form m.raws dir (context_at m.nodes dir) name
         → is_some (entry m.nodes dir name) ≡ false → result ≡ plain.clashes m dir name }
@@ -126,7 +126,7 @@ pub(crate) fn shares_text(state: &MountState, dir: u32, stored: &[u8]) -> bool
     // That short texts are distinct, and that each stored name has 16 to 255 bytes.
     texts_stay_distinct();
     names_come_back();
-    if stored.len() <= MOST_SPELLED_BYTES {
+    if stored.len() <= MAX_SPELLED_BYTES {
         return false;
     }
     shares_long_text(state, dir, stored)
@@ -135,7 +135,7 @@ pub(crate) fn shares_text(state: &MountState, dir: u32, stored: &[u8]) -> bool
 // The same of a stored name of more bytes. Not inlined: the usual path would reserve stack space for it.
 #[inline(never)]
 fn shares_long_text(state: &MountState, dir: u32, stored: &[u8]) -> bool
-    ensures { (m : PlainMount) (c : Context) (name : Name) → StandsFor state.now m
+    ensures { (m : PlainMount) (c : Context) (name : Name) → Represents state.now m
         → context_at m.nodes dir ≡ Some c → IsPlain name → AreBytes name
         → stored.now ≡ stored_form m.raws dir (context_at m.nodes dir) name
         → result ≡ plain.clashes m dir name }

@@ -8,22 +8,22 @@ ghost use Rattle.mount_model.specs.ClaimHistory.{is_refused};
 ghost use Rattle.mount_model.specs.NameAnswers.{answer_to_make};
 ghost use Rattle.mount_model.specs.EncryptedNames.{lacks_key};
 ghost use Rattle.mount_model.specs.PlainMount.{PlainMount};
-ghost use Rattle.mount_state.specs.Given.{IsGivenOrNoMemory, IsRefusedAsDue};
+ghost use Rattle.mount_state.specs.AnswerOf.{IsAnswerOrNoMemory, IsExpectedRefusal};
 ghost use Rattle.mount_state.specs.SameButCaches.{SameButCaches};
-ghost use Rattle.mount_state.specs.StandsFor.{StandsFor};
+ghost use Rattle.mount_state.specs.Represents.{Represents};
 ghost use Rattle.mount_state.specs.Stored.{stored_form};
-ghost use Rattle.mount_names.specs.Made.{LinksAt};
+ghost use Rattle.mount_names.specs.NewEntries.{LinksAt};
 ghost use Rattle.mount_names.specs.SameButTree.{SameButTree};
 
-use crate::ciphers::drawn_cipher;
+use crate::ciphers::derived_cipher;
 use crate::makes::{context_of_new, make};
 use crate::places::{Place, place_at};
-use crate::stored_names::enciphered;
+use crate::stored_names::encrypt_stored_name;
 use disk_tree::Body;
 use item_list::Bytes;
 use mount_model::{Path, Refusal, Reply};
 use mount_state::MountState;
-use name_crypt::{MOST_NAME_BYTES, Plain, Steps};
+use name_crypt::{MAX_NAME_BYTES, Plain, Steps};
 use policy_ctx::Context;
 use short_bytes::Filled;
 use std::alloc::Global;
@@ -32,7 +32,7 @@ use std::sync::ledger::Ledger;
 /// Makes a symlink to the target at the end of the path, as `mkdir` makes a directory. In a directory with
 /// a policy the target is stored encrypted.
 ///
-/// Refused as `mkdir` is, and with NameTooLong for a target of more than `MOST_NAME_BYTES` bytes, after
+/// Refused as `mkdir` is, and with NameTooLong for a target of more than `MAX_NAME_BYTES` bytes, after
 /// Exists and before NoKeyClash.
 pub fn symlink<L: Ledger>(
     alloc: Global,
@@ -42,16 +42,16 @@ pub fn symlink<L: Ledger>(
     nonce: &[u8; 16],
     steps: &mut Steps<L>,
 ) -> Reply
-    ensures stands { (m : PlainMount) → StandsFor state.old m → IsPath path.now → IsTarget target.now
-        → IsGivenOrNoMemory m (answer_to_make m path.now nonce.now (node.Link target.now)) result state.new }
-    ensures due { (m : PlainMount) → StandsFor state.old m → IsPath path.now → IsTarget target.now
-        → IsRefusedAsDue (answer_to_make m path.now nonce.now (node.Link target.now)) result }
+    ensures represents { (m : PlainMount) → Represents state.old m → IsPath path.now → IsTarget target.now
+        → IsAnswerOrNoMemory m (answer_to_make m path.now nonce.now (node.Link target.now)) result state.new }
+    ensures due { (m : PlainMount) → Represents state.old m → IsPath path.now → IsTarget target.now
+        → IsExpectedRefusal (answer_to_make m path.now nonce.now (node.Link target.now)) result }
     ensures refused { is_refused result ≡ true → SameButCaches state.old state.new }
     ensures same { SameButTree state.old state.new }
     ensures ticks { steps.new ≤ steps.old + length path.now + 1 }
 {
-    let long = target.len() > MOST_NAME_BYTES;
-    let mut room = [0; MOST_NAME_BYTES];
+    let long = target.len() > MAX_NAME_BYTES;
+    let mut room = [0; MAX_NAME_BYTES];
     match place_at(alloc, state, path, long, &mut room, steps) {
         Ok(place) => link_at(alloc, state, &place, target, nonce, steps),
         Err(refusal) => Reply::Refused(refusal),
@@ -69,7 +69,7 @@ fn link_at<L: Ledger>(
 ) -> Reply
     requires dir { IsDirAt state.old.disk place.now.dir }
     requires room { state.old.next_node + 1 < 2 ^ 32 }
-    ensures stands { LinksAt state.old state.new place.now nonce.now target.now result }
+    ensures represents { LinksAt state.old state.new place.now nonce.now target.now result }
     ensures refused { is_refused result ≡ true → SameButCaches state.old state.new }
     ensures same { SameButTree state.old state.new }
     ensures ticks { steps.new ≤ steps.old + 1 }
@@ -100,15 +100,15 @@ fn target_stored<L: Ledger>(
     context: &Option<Context>,
     target: &Plain,
     steps: &mut Steps<L>,
-) -> Option<Filled<MOST_NAME_BYTES>>
-    ensures value { (m : PlainMount) → StandsFor state.now m → lacks_key m context.now ≡ false
+) -> Option<Filled<MAX_NAME_BYTES>>
+    ensures value { (m : PlainMount) → Represents state.now m → lacks_key m context.now ≡ false
         → result ≡ Some (stored_form m.raws state.now.next_node context.now target.now) }
     ensures ticks { steps.new ≤ steps.old + 1 }
 {
     match context {
-        Some(context) => match drawn_cipher(state, state.next_node, context) {
+        Some(context) => match derived_cipher(state, state.next_node, context) {
             Some(mut cipher) => {
-                let stored = enciphered(&cipher, context.policy.pad, target, steps);
+                let stored = encrypt_stored_name(&cipher, context.policy.pad, target, steps);
                 cipher.wipe();
                 Some(stored)
             }

@@ -7,16 +7,16 @@ ghost use Rattle.plain_tree.specs.NodesByNumber.{children, context_at, is_dir_at
 ghost use Rattle.mount_model.specs.PlainMount.{PlainMount};
 ghost use Rattle.mount_model.specs.MoveRefusal as plain;
 ghost use Rattle.mount_model.specs.SoundNodes.{IsName};
-ghost use Rattle.mount_state.specs.StandsFor.{StandsFor};
+ghost use Rattle.mount_state.specs.Represents.{Represents};
 ghost use Rattle.mount_names.specs.NewPlaces.{IsNewName};
-ghost use Rattle.mount_names.specs.Removed.{IsEntryOf};
+ghost use Rattle.mount_names.specs.Removals.{IsEntryOf};
 ghost use Rattle.mount_names.specs.Places.{IsBlank};
 
-use crate::contexts::{context_at, context_told};
+use crate::contexts::{context_at, reported_context};
 use crate::entries::Entry;
 use crate::places::{Place, clashes, free_place};
-use crate::stored_names::NameRoom;
-use mount_limits::MOST_CHILDREN;
+use crate::stored_names::NameBuffer;
+use mount_limits::MAX_CHILDREN;
 use mount_model::Refusal;
 use mount_state::MountState;
 use name_crypt::Steps;
@@ -31,14 +31,14 @@ pub(crate) fn target_in<'a, L: Ledger>(
     dir: u32,
     past: bool,
     part: &'a [u8],
-    room: &'a mut NameRoom,
+    room: &'a mut NameBuffer,
     steps: &mut Steps<L>,
 ) -> Result<Place<'a>, Refusal>
     requires { IsBlank room.old }
-    ensures refused { IfErr result (λ refusal. (m : PlainMount) (old : Name) → StandsFor state.now m
+    ensures refused { IfErr result (λ refusal. (m : PlainMount) (old : Name) → Represents state.now m
         → is_dir_at m.nodes dir ≡ true → IsName part.now → IsEntryOf m old entry.now
         → plain.move_refusal m entry.now.dir entry.now.number dir past part.now ≡ Some refusal) }
-    ensures placed { IfOk result (λ place. (m : PlainMount) (old : Name) → StandsFor state.now m
+    ensures placed { IfOk result (λ place. (m : PlainMount) (old : Name) → Represents state.now m
         → is_dir_at m.nodes dir ≡ true → IsName part.now → IsEntryOf m old entry.now
         → IsNewName m dir part.now place
         × (plain.move_refusal m entry.now.dir entry.now.number dir past part.now ≡ None)) }
@@ -54,7 +54,7 @@ pub(crate) fn target_in<'a, L: Ledger>(
     if !state.keyed_as(dir, node) {
         return Err(Refusal::NoKey);
     }
-    let context = context_told(state, dir, node);
+    let context = reported_context(state, dir, node);
     match free_place(state, dir, node, context, part, room, steps) {
         Ok(place) => match why_not(state, entry, &place, past) {
             Some(refusal) => Err(refusal),
@@ -66,7 +66,7 @@ pub(crate) fn target_in<'a, L: Ledger>(
 
 // Returns why the entry can't be moved to that place, if it can't.
 fn why_not(state: &MountState, entry: &Entry, place: &Place, past: bool) -> Option<Refusal>
-    ensures { (m : PlainMount) (old name : Name) → StandsFor state.now m → IsName name
+    ensures { (m : PlainMount) (old name : Name) → Represents state.now m → IsName name
         → IsEntryOf m old entry.now → IsNewName m place.now.dir name place.now
         → result ≡ plain.move_refusal m entry.now.dir entry.now.number place.now.dir past name }
 {
@@ -88,7 +88,7 @@ fn why_not(state: &MountState, entry: &Entry, place: &Place, past: bool) -> Opti
 // Whether the place's directory may contain the entry's node. It may if it contains it already: what is in
 // a directory with a policy has that policy, and a directory without one may contain any node.
 fn may_come(state: &MountState, entry: &Entry, place: &Place) -> bool
-    ensures { (m : PlainMount) (old : Name) → StandsFor state.now m → IsEntryOf m old entry.now
+    ensures { (m : PlainMount) (old : Name) → Represents state.now m → IsEntryOf m old entry.now
         → place.now.context ≡ context_at m.nodes place.now.dir
         → result ≡ plain.may_hold (context_at m.nodes place.now.dir) (context_at m.nodes entry.now.number) }
 {
@@ -119,15 +119,15 @@ fn has_policy(policy: &Policy, held: &Option<Context>) -> bool
 
 // Whether the name would be moved to another directory that is full.
 fn is_full_elsewhere(state: &MountState, from: u32, to: u32) -> bool
-    ensures { (m : PlainMount) → StandsFor state.now m → result ≡ plain.is_full_elsewhere m from to }
+    ensures { (m : PlainMount) → Represents state.now m → result ≡ plain.is_full_elsewhere m from to }
 {
     to != from && has_most_entries(state, to)
 }
 
 // Whether the directory has as many entries as one may have.
 fn has_most_entries(state: &MountState, dir: u32) -> bool
-    ensures { (m : PlainMount) → StandsFor state.now m
-        → result ≡ nat_le MOST_CHILDREN (length (children m.nodes dir)) }
+    ensures { (m : PlainMount) → Represents state.now m
+        → result ≡ nat_le MAX_CHILDREN (length (children m.nodes dir)) }
 {
-    state.disk.entry_count(dir) >= MOST_CHILDREN
+    state.disk.entry_count(dir) >= MAX_CHILDREN
 }

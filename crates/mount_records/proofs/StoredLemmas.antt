@@ -8,37 +8,37 @@ use Rattle.plain_tree.specs.Facts.{AgreesBy}
 use Rattle.disk_tree.specs.DiskTree.{Disk}
 use Rattle.key_ring.specs.Holding.{Holding}
 use Rattle.key_ring.specs.Modes.{Modes}
-use Rattle.inode_refs.specs.Cached.{Cache}
+use Rattle.inode_refs.specs.CacheMaps.{Cache}
 use Rattle.meta_files.specs.declared.fault.StoreFault.{StoreFault}
 use Rattle.meta_files.specs.declared.fault.StoreFault.TheVariants as fault
-use Rattle.meta_files.specs.declared.files.TheConstants.{MOST_RECORD_BYTES, MOST_RECORDS, LAST_VERSION}
+use Rattle.meta_files.specs.declared.files.TheConstants.{MAX_RECORD_BYTES, MAX_RECORDS, LAST_VERSION}
 use Rattle.meta_files.specs.Records.{RecordList, record_of, version_of, with_record}
 use Rattle.meta_files.specs.Faults.{store_fault}
 use Rattle.mount_model.specs.declared.reply.Reply.TheVariants.{Stored}
 use Rattle.mount_model.specs.declared.reply.Refusal.TheVariants.{TooBig, Changed, NoSpace}
 use Rattle.mount_model.specs.PlainMount.{PlainMount}
-use Rattle.mount_model.specs.Answered.{Answer, refused}
+use Rattle.mount_model.specs.AnswerForms.{Answer, refusal_with}
 use Rattle.mount_model.specs.RecordAnswers.{stored, answer_to_meta_store}
 use Rattle.mount_model.specs.WellFormed.{HasRecords}
 use Rattle.mount_model.proofs.RecordLemmas.{HasRecords-stored}
 use Rattle.dentry_cache.specs.Names.{NameList}
-use Rattle.mount_state.specs.CachedNames.{NamesStand}
+use Rattle.mount_state.specs.CachedNames.{RepresentsNames}
 use Rattle.mount_state.specs.Handles.{Handles}
 use Rattle.mount_state.specs.Stored.{stored_node}
-use Rattle.mount_state.specs.StandsFor.{StandsFor, KeysStand, HandlesStand}
-use Rattle.mount_state.specs.CachedKeys.{CachesStand}
+use Rattle.mount_state.specs.Represents.{Represents, RepresentsKeys, RepresentsHandles}
+use Rattle.mount_state.specs.CachedKeys.{RepresentsCaches}
 use Rattle.mount_state.specs.declared.state.MountState.{MountState}
-use Rattle.mount_state.specs.Given.{IsGiven}
+use Rattle.mount_state.specs.AnswerOf.{IsAnswerOf}
 use Rattle.mount_state.proofs.WalkLemmas.{same_cache}
 use Rattle.mount_records.specs.SameButRecords.{SameButRecords}
 
 -- ---- what prevented it
 
 -- an answer without a fault
-abbrev came : ℕ → Result ℕ StoreFault
-came version = Ok version
+abbrev after_calls : ℕ → Result ℕ StoreFault
+after_calls version = Ok version
 
-no_fault : (o : Option StoreFault) (version : ℕ) → IfSome o (λ fault. came version ≡ Err fault) → o ≡ None
+no_fault : (o : Option StoreFault) (version : ℕ) → IfSome o (λ fault. after_calls version ≡ Err fault) → o ≡ None
 no_fault None version is = refl
 no_fault (Some fault) version is = absurd (cc)
 
@@ -69,13 +69,13 @@ module _ (m : PlainMount) (name bytes : List ℕ) (expected : ℕ)
   version = version_of m.records name
 
   abbrev is_long : Bool
-  is_long = nat_lt MOST_RECORD_BYTES (length bytes)
+  is_long = nat_lt MAX_RECORD_BYTES (length bytes)
 
   abbrev is_stale : Bool
   is_stale = not (version == expected)
 
   abbrev is_crowded : Bool
-  is_crowded = is_none (record_of m.records name) && nat_le MOST_RECORDS (length m.records)
+  is_crowded = is_none (record_of m.records name) && nat_le MAX_RECORDS (length m.records)
 
   abbrev is_spent : Bool
   is_spent = version == LAST_VERSION
@@ -91,46 +91,46 @@ module _ (m : PlainMount) (name bytes : List ℕ) (expected : ℕ)
 
   answer_stored : answer_to_meta_store m name expected bytes ≡ stored m name bytes
   answer_stored =
-      last_answer is_long is_stale is_crowded is_spent (refused m TooBig) (refused m (Changed version))
-      (refused m NoSpace) (stored m name bytes)
+      last_answer is_long is_stale is_crowded is_spent (refusal_with m TooBig) (refusal_with m (Changed version))
+      (refusal_with m NoSpace) (stored m name bytes)
       none_holds.0 none_holds.1 none_holds.2 none_holds.3
 
 -- ---- the state
 
-module _ (old new : MountState) (m : PlainMount) (st : StandsFor old m) (same : SameButRecords old new) where
+module _ (old new : MountState) (m : PlainMount) (st : Represents old m) (same : SameButRecords old new) where
   -- with whatever records the mount is well formed
   records_stand : (records : RecordList) → HasRecords records → new.meta ≡ records
-      → StandsFor new (record m { records = records })
+      → Represents new (record m { records = records })
   records_stand records well are = record {
     well = record { keys = st.well.keys; nodes = st.well.nodes; handles = st.well.handles; records = well };
     tree = record {
       nodes = subst (λ (d : Disk). AgreesBy (stored_node m.raws) m.nodes d) (sym same.disk) st.tree.nodes;
       next = same.next_node ∙ st.tree.next;
     };
-    keys = subst (λ (ring : Holding). KeysStand ring (record m { records = records })) (sym same.ring)
+    keys = subst (λ (ring : Holding). RepresentsKeys ring (record m { records = records })) (sym same.ring)
         (record { claims = st.keys.claims; secrets = st.keys.secrets });
-    handles = subst (λ (handles : Handles). HandlesStand handles (record m { records = records }))
+    handles = subst (λ (handles : Handles). RepresentsHandles handles (record m { records = records }))
         (sym same.handles)
         (record { live = st.handles.live; opened = st.handles.opened });
-    caches = subst (λ (cache : Cache). CachesStand cache new.modes (record m { records = records }))
+    caches = subst (λ (cache : Cache). RepresentsCaches cache new.modes (record m { records = records }))
         (sym (same_cache old.inodes new.inodes same.keys same.pins))
-        (subst (λ (modes : Modes). CachesStand old.inodes modes (record m { records = records }))
+        (subst (λ (modes : Modes). RepresentsCaches old.inodes modes (record m { records = records }))
         (sym same.modes)
         (record { file_keys = st.caches.file_keys; mode_keys = st.caches.mode_keys }));
-    names = subst (λ (names : NameList). NamesStand names m.nodes) (sym same.names) st.names;
+    names = subst (λ (names : NameList). RepresentsNames names m.nodes) (sym same.names) st.names;
     records = are;
   }
 
   stored_by : (name bytes : List ℕ) (expected version : ℕ)
-      → IfSome (store_fault old.meta name expected bytes) (λ fault. came version ≡ Err fault)
+      → IfSome (store_fault old.meta name expected bytes) (λ fault. after_calls version ≡ Err fault)
       → version ≡ version_of old.meta name + 1 → new.meta ≡ with_record old.meta name version bytes
-      → IsGiven (answer_to_meta_store m name expected bytes) (Stored version) new
-  stored_by name bytes expected version came is_version are =
+      → IsAnswerOf (answer_to_meta_store m name expected bytes) (Stored version) new
+  stored_by name bytes expected version after_calls is_version are =
       let due : store_fault m.records name expected bytes ≡ None =
-      sym (ap (λ rs. store_fault rs name expected bytes) st.records) ∙ no_fault _ version came in
+      sym (ap (λ rs. store_fault rs name expected bytes) st.records) ∙ no_fault _ version after_calls in
       let told : version ≡ version_of m.records name + 1 =
       is_version ∙ ap (λ rs. version_of rs name + 1) st.records in
-      subst (λ (a : Answer). IsGiven a (Stored version) new) (sym (answer_stored m name bytes expected due)) (
+      subst (λ (a : Answer). IsAnswerOf a (Stored version) new) (sym (answer_stored m name bytes expected due)) (
         ap Stored told,
         records_stand (with_record m.records name (version_of m.records name + 1) bytes)
             (records_well m name bytes expected due st.well.records)
@@ -140,12 +140,12 @@ module _ (old new : MountState) (m : PlainMount) (st : StandsFor old m) (same : 
   -- the name and the bytes were taken as slices
   pub stored_gives : (name slice_name bytes slice_bytes : List ℕ) (expected version : ℕ) → slice_name ≡ name
       → slice_bytes ≡ bytes
-      → IfSome (store_fault old.meta slice_name expected slice_bytes) (λ fault. came version ≡ Err fault)
+      → IfSome (store_fault old.meta slice_name expected slice_bytes) (λ fault. after_calls version ≡ Err fault)
       → version ≡ version_of old.meta slice_name + 1 → new.meta
       ≡ with_record old.meta slice_name version slice_bytes
-      → IsGiven (answer_to_meta_store m name expected bytes) (Stored version) new
-  stored_gives name slice_name bytes slice_bytes expected version name_is bytes_are came is_version are =
-      subst (λ (n : List ℕ). IsGiven (answer_to_meta_store m n expected bytes) (Stored version) new) name_is
-      (subst (λ (b : List ℕ). IsGiven (answer_to_meta_store m slice_name expected b) (Stored version) new)
+      → IsAnswerOf (answer_to_meta_store m name expected bytes) (Stored version) new
+  stored_gives name slice_name bytes slice_bytes expected version name_is bytes_are after_calls is_version are =
+      subst (λ (n : List ℕ). IsAnswerOf (answer_to_meta_store m n expected bytes) (Stored version) new) name_is
+      (subst (λ (b : List ℕ). IsAnswerOf (answer_to_meta_store m slice_name expected b) (Stored version) new)
       bytes_are
-      (stored_by slice_name slice_bytes expected version came is_version are))
+      (stored_by slice_name slice_bytes expected version after_calls is_version are))

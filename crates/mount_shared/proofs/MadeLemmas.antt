@@ -11,37 +11,37 @@ use Rattle.mount_model.specs.declared.reply.Refusal.TheVariants.{NoMemory}
 use Rattle.mount_model.specs.PlainMount.{PlainMount}
 use Rattle.mount_model.specs.Answer.{answer_of, answer_to}
 use Rattle.mount_model.specs.Step.{takes_memory, IsMountStep}
-use Rattle.mount_model.specs.History.{MountEntry, mount_left}
-use Rattle.mount_model.specs.ClaimHistory.{is_refused, claims_made}
-use Rattle.mount_model.specs.Lawful.{TellsBy}
-use Rattle.mount_model.proofs.StepLemmas.{mount_left-step}
-use Rattle.mount_state.specs.Given.{IsGiven, IsGivenOrNoMemory, IsRefusedAsDue}
+use Rattle.mount_model.specs.History.{MountEntry, mount_after_entry}
+use Rattle.mount_model.specs.ClaimHistory.{is_refused, claims_after_op}
+use Rattle.mount_model.specs.Lawful.{ReportsClaims}
+use Rattle.mount_model.proofs.StepLemmas.{mount_after_entry-step}
+use Rattle.mount_state.specs.AnswerOf.{IsAnswerOf, IsAnswerOrNoMemory, IsExpectedRefusal}
 use Rattle.mount_state.specs.SameBut.{IsSame}
 use Rattle.mount_state.specs.SameButCaches.{SameButCaches}
-use Rattle.mount_state.specs.StandsFor.{StandsFor}
+use Rattle.mount_state.specs.Represents.{Represents}
 use Rattle.mount_state.specs.declared.state.MountState.{MountState}
 use Rattle.mount_shared.specs.Made.{TakesStep, IsMade}
 
 -- ---- a step
 
-pub step_given : (m : PlainMount) (e : MountEntry) (new : MountState) → IsGiven (answer_of m e.who e.call) e.reply new
+pub step_given : (m : PlainMount) (e : MountEntry) (new : MountState) → IsAnswerOf (answer_of m e.who e.call) e.reply new
     → TakesStep m e new
 step_given m e new given =
     let step : IsMountStep m e.who e.call e.reply (answer_of m e.who e.call).mount = inl (given.0, refl) in
-    let left : (answer_of m e.who e.call).mount ≡ mount_left m e =
-    mount_left-step m e (answer_of m e.who e.call).mount step in (
+    let left : (answer_of m e.who e.call).mount ≡ mount_after_entry m e =
+    mount_after_entry-step m e (answer_of m e.who e.call).mount step in (
       subst (IsMountStep m e.who e.call e.reply) left step,
-      subst (StandsFor new) left given.1,
+      subst (Represents new) left given.1,
     )
 
 pub step_given_or_none : (m : PlainMount) (e : MountEntry) (new : MountState) → IsTrue (takes_memory e.call.op)
-    → IsGivenOrNoMemory m (answer_of m e.who e.call) e.reply new → TakesStep m e new
+    → IsAnswerOrNoMemory m (answer_of m e.who e.call) e.reply new → TakesStep m e new
 step_given_or_none m e new takes answered = ⊎_elim
     (λ given. step_given m e new given)
     (λ wanting.
     let step : IsMountStep m e.who e.call e.reply m = inr (takes, wanting.0, refl) in
-    let left : m ≡ mount_left m e = mount_left-step m e m step in
-    (subst (IsMountStep m e.who e.call e.reply) left step, subst (StandsFor new) left wanting.1))
+    let left : m ≡ mount_after_entry m e = mount_after_entry-step m e m step in
+    (subst (IsMountStep m e.who e.call e.reply) left step, subst (Represents new) left wanting.1))
     answered
 
 -- ---- the entry
@@ -85,20 +85,20 @@ takes_some o reply takes none = absurd (true≢false (sym takes ∙ none))
 
 -- an answer that is a refusal is the reply
 abbrev pub IsDueOf : MountState → ℕ → ℕ → Op → Reply → Type 0
-IsDueOf old caller uid o reply = (m : PlainMount) → StandsFor old m → IsRefusedAsDue (answer_to m caller uid o) reply
+IsDueOf old caller uid o reply = (m : PlainMount) → Represents old m → IsExpectedRefusal (answer_to m caller uid o) reply
 
 module _ (old new : MountState) (caller : ℕ) where
   abbrev EntryOf : ℕ → Reply → Op → Type 0
   EntryOf uid reply o = IsMade old (entry caller (call_with uid o) reply) new
 
   -- of an operation that makes no claims
-  made_else : (uid : ℕ) (o : Op) (reply : Reply) → ((cs : ClaimSet) → claims_made cs uid o ≡ cs)
-      → TellsBy old.ring.claims uid o reply → new.ring ≡ old.ring
+  made_else : (uid : ℕ) (o : Op) (reply : Reply) → ((cs : ClaimSet) → claims_after_op cs uid o ≡ cs)
+      → ReportsClaims old.ring.claims uid o reply → new.ring ≡ old.ring
       → Keeps old new reply → IsSure o reply → IsDueOf old caller uid o reply
-      → ((m : PlainMount) → StandsFor old m → TakesStep m (entry caller (call_with uid o) reply) new)
+      → ((m : PlainMount) → Represents old m → TakesStep m (entry caller (call_with uid o) reply) new)
       → EntryOf uid reply o
   made_else uid o reply none tells same keeps sure due step = record {
-    stands = λ m st agrees. step m st;
+    represents = λ m st agrees. step m st;
     claims = ap (λ ring. ring.claims) same
         ∙ sym (ap (cond (is_refused reply) old.ring.claims) (none old.ring.claims)
         ∙ same_either (is_refused reply) old.ring.claims);
@@ -109,22 +109,22 @@ module _ (old new : MountState) (caller : ℕ) where
   }
 
   -- the same of a call, whose answer is given
-  pub made_given : (call : Call) (o : Op) (reply : Reply) → call.op ≡ o → ((cs : ClaimSet) → claims_made cs call.uid o ≡ cs)
-      → TellsBy old.ring.claims call.uid o reply → new.ring ≡ old.ring
+  pub made_given : (call : Call) (o : Op) (reply : Reply) → call.op ≡ o → ((cs : ClaimSet) → claims_after_op cs call.uid o ≡ cs)
+      → ReportsClaims old.ring.claims call.uid o reply → new.ring ≡ old.ring
       → Keeps old new reply → IsSure o reply
-      → ((m : PlainMount) → StandsFor old m → IsGiven (answer_to m caller call.uid o) reply new)
+      → ((m : PlainMount) → Represents old m → IsAnswerOf (answer_to m caller call.uid o) reply new)
       → IsMade old (entry caller call reply) new
-  made_given call o reply is none tells same keeps sure stands = subst (EntryOf call.uid reply) (sym is)
-      (made_else call.uid o reply none tells same keeps sure (λ m st _. (stands m st).0)
-      (λ m st. step_given m (entry caller (call_with call.uid o) reply) new (stands m st)))
+  made_given call o reply is none tells same keeps sure represents = subst (EntryOf call.uid reply) (sym is)
+      (made_else call.uid o reply none tells same keeps sure (λ m st _. (represents m st).0)
+      (λ m st. step_given m (entry caller (call_with call.uid o) reply) new (represents m st)))
 
   -- or there may be no memory for it
   pub made_given_or_none : (call : Call) (o : Op) (reply : Reply) → call.op ≡ o → IsTrue (takes_memory o)
-      → ((cs : ClaimSet) → claims_made cs call.uid o ≡ cs)
-      → TellsBy old.ring.claims call.uid o reply → new.ring ≡ old.ring
+      → ((cs : ClaimSet) → claims_after_op cs call.uid o ≡ cs)
+      → ReportsClaims old.ring.claims call.uid o reply → new.ring ≡ old.ring
       → Keeps old new reply → IsDueOf old caller call.uid o reply
-      → ((m : PlainMount) → StandsFor old m → IsGivenOrNoMemory m (answer_to m caller call.uid o) reply new)
+      → ((m : PlainMount) → Represents old m → IsAnswerOrNoMemory m (answer_to m caller call.uid o) reply new)
       → IsMade old (entry caller call reply) new
-  made_given_or_none call o reply is takes none tells same keeps due stands = subst (EntryOf call.uid reply) (sym is)
+  made_given_or_none call o reply is takes none tells same keeps due represents = subst (EntryOf call.uid reply) (sym is)
       (made_else call.uid o reply none tells same keeps (takes_some o reply takes) due
-      (λ m st. step_given_or_none m (entry caller (call_with call.uid o) reply) new takes (stands m st)))
+      (λ m st. step_given_or_none m (entry caller (call_with call.uid o) reply) new takes (represents m st)))

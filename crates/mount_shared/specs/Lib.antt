@@ -1,12 +1,12 @@
 pub mod DropsCaches
 pub mod Groups
-pub mod Lends
+pub mod PendingBlocks
 pub mod Made
 pub mod PassLaws
 pub mod PortLaws
 pub mod SerialCalls
 pub mod SharedCalls
-pub mod StandsAfter
-pub mod StandsLaws
-pub mod TellsOfKeys
-pub mod TellsOfOthers
+pub mod IsStateAfter
+pub mod StateLaws
+pub mod KeyReports
+pub mod OtherReports

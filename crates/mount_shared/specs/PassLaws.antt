@@ -4,10 +4,10 @@ use Rattle.std.proofs.Common.{◌∙◌, arith, append-nil, append_assoc, length
 use Rattle.call_history.proofs.Prefixes.{IsPrefix-refl, IsPrefix_trans}
 use Rattle.mount_model.specs.History.{History}
 use Rattle.mount_model.specs.Port.{PlacedCalls}
-use Rattle.mount_shared.specs.SharedCalls.{MountPass, PassCame}
+use Rattle.mount_shared.specs.SharedCalls.{MountPass, PassAfterCalls}
 
-pub PassCame-none : (lawful : History → Type 0) (pass : MountPass) → PassCame lawful pass [] pass
-PassCame-none lawful pass = record {
+pub PassAfterCalls-none : (lawful : History → Type 0) (pass : MountPass) → PassAfterCalls lawful pass [] pass
+PassAfterCalls-none lawful pass = record {
   made = sym (append-nil pass.mine);
   more = IsPrefix-refl pass.seen;
   answered = λ so. so;
@@ -18,9 +18,9 @@ PassCame-none lawful pass = record {
   same_past = refl;
 }
 
-pub PassCame-on : (lawful : History → Type 0) (a b c : MountPass) (es fs : PlacedCalls)
-    → PassCame lawful a es b → PassCame lawful b fs c → PassCame lawful a (es ++ fs) c
-PassCame-on lawful a b c es fs p q =
+pub PassAfterCalls-on : (lawful : History → Type 0) (a b c : MountPass) (es fs : PlacedCalls)
+    → PassAfterCalls lawful a es b → PassAfterCalls lawful b fs c → PassAfterCalls lawful a (es ++ fs) c
+PassAfterCalls-on lawful a b c es fs p q =
     let first = p.counted in
     let second = q.counted in
     record {
@@ -34,6 +34,6 @@ PassCame-on lawful a b c es fs p q =
       same_past = q.same_past ∙ p.same_past;
     }
 
-pub PassCame-caller : (lawful : History → Type 0) (a b : MountPass) (es : PlacedCalls)
-    → PassCame lawful a es b → b.who ≡ a.who
-PassCame-caller lawful a b es p = p.same_caller
+pub PassAfterCalls-caller : (lawful : History → Type 0) (a b : MountPass) (es : PlacedCalls)
+    → PassAfterCalls lawful a es b → b.who ≡ a.who
+PassAfterCalls-caller lawful a b es p = p.same_caller

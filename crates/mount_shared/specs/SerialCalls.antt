@@ -1,6 +1,6 @@
 -- What calls make of a machine that one thread calls.
 use Rattle.std.specs.Prelude.{◌≡◌, ℕ, ◌+◌, ◌++◌, length}
-use Rattle.call_history.specs.Entries.{numbered, by}
+use Rattle.call_history.specs.Entries.{entries_with_places, by}
 use Rattle.call_history.specs.Placed.{entries_of}
 use Rattle.mount_model.specs.History.{History}
 use Rattle.mount_model.specs.Port.{PlacedCalls}
@@ -18,11 +18,11 @@ serial_view machine places caller left =
 
 -- the caller has made these calls, whose places count on; and every history that reached the machine
 -- reaches it with these entries after it
-pub record SerialCame {M : Type 0} (leads : History → M → Type 0)
+pub record SerialAfterCalls {M : Type 0} (reaches : History → M → Type 0)
     (old : SerialView M) (calls : PlacedCalls) (new : SerialView M) : Type 0 where
-  pub placed : calls ≡ numbered old.places (entries_of calls)
+  pub placed : calls ≡ entries_with_places old.places (entries_of calls)
   pub next : new.places ≡ old.places + length calls
   pub own : by old.caller calls ≡ calls
   pub counted : new.left + length calls ≡ old.left
   pub same_caller : new.caller ≡ old.caller
-  pub led : (history : History) → leads history old.machine → leads (history ++ entries_of calls) new.machine
+  pub reached_by : (history : History) → reaches history old.machine → reaches (history ++ entries_of calls) new.machine

@@ -2,19 +2,19 @@
 
 ghost use Rattle.std.specs.Prelude.{◌≡◌, ◌<◌};
 ghost use Rattle.call_history.specs.Entries.{entry};
-ghost use Rattle.mount_files.specs.Lent.{reply_of};
+ghost use Rattle.mount_files.specs.Pending.{reply_of};
 ghost use Rattle.mount_model.specs.Fits.{Fits};
 ghost use Rattle.mount_shared.specs.DropsCaches.{DropsCaches};
-ghost use Rattle.mount_shared.specs.Lends.{LendsBlocks};
+ghost use Rattle.mount_shared.specs.PendingBlocks.{IsPendingOfHandle};
 ghost use Rattle.mount_shared.specs.Made.{IsMade};
-ghost use Rattle.mount_shared.specs.TellsOfKeys.{AbsentIsGone, BusyIsOpen};
-ghost use Rattle.mount_shared.specs.TellsOfOthers.{ClosesOwn, TellsRecords};
+ghost use Rattle.mount_shared.specs.KeyReports.{AbsentHoldsNothing, BusyIsOpen};
+ghost use Rattle.mount_shared.specs.OtherReports.{ClosesOwn, ReportsRecords};
 
 use crate::file_answers::answer_on_files;
 use crate::key_answers::reply_on_keys;
 use crate::name_answers::reply_on_names;
 use crate::record_answers::reply_on_records;
-use mount_files::Lent;
+use mount_files::Pending;
 use mount_model::{Call, Op};
 use mount_state::MountState;
 use name_crypt::Steps;
@@ -28,18 +28,18 @@ pub(crate) fn answer<L: Ledger>(
     caller: u32,
     call: &Call,
     blank: Blank,
-) -> Lent
+) -> Pending
     requires name { blank.name ≡ L.name }
     requires parts { blank.parts ≡ L.parts }
     requires some { 0 < L.parts }
     requires asked { Fits call.now }
     ensures made { IsMade state.old (entry caller call.now (reply_of result)) state.new }
-    ensures absent { AbsentIsGone state.new call.now.op (reply_of result) }
+    ensures absent { AbsentHoldsNothing state.new call.now.op (reply_of result) }
     ensures busy { BusyIsOpen state.new call.now.op (reply_of result) }
     ensures drops { DropsCaches state.old state.new call.now.op }
-    ensures lends { LendsBlocks state.old caller call.now.op result }
+    ensures pending_read { IsPendingOfHandle state.old caller call.now.op result }
     ensures closes { ClosesOwn state.old caller call.now.op (reply_of result) }
-    ensures records { TellsRecords state.old call.now.op (reply_of result) }
+    ensures records { ReportsRecords state.old call.now.op (reply_of result) }
 {
     let mut steps = Steps::<L>::new(blank);
     match &call.op {
@@ -47,9 +47,9 @@ pub(crate) fn answer<L: Ledger>(
         | Op::RemoveKey { .. }
         | Op::RemoveKeyAll { .. }
         | Op::KeyStatus { .. }
-        | Op::DropCaches => Lent::Ready(reply_on_keys(alloc, state, call)),
+        | Op::DropCaches => Pending::Ready(reply_on_keys(alloc, state, call)),
         Op::MetaLoad { .. } | Op::MetaStore { .. } => {
-            Lent::Ready(reply_on_records(alloc, state, call))
+            Pending::Ready(reply_on_records(alloc, state, call))
         }
         Op::Stat { .. }
         | Op::List { .. }
@@ -61,7 +61,7 @@ pub(crate) fn answer<L: Ledger>(
         | Op::Symlink { .. }
         | Op::Unlink { .. }
         | Op::Rmdir { .. }
-        | Op::Rename { .. } => Lent::Ready(reply_on_names(alloc, state, call, &mut steps)),
+        | Op::Rename { .. } => Pending::Ready(reply_on_names(alloc, state, call, &mut steps)),
         Op::OpenNode { .. } | Op::Read { .. } | Op::Write { .. } | Op::Close { .. } => {
             answer_on_files(alloc, state, caller, call, &mut steps)
         }

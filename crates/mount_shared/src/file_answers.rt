@@ -2,13 +2,13 @@
 
 ghost use Rattle.std.specs.Prelude.{IsTrue};
 ghost use Rattle.call_history.specs.Entries.{entry};
-ghost use Rattle.mount_files.specs.Lent.{reply_of};
+ghost use Rattle.mount_files.specs.Pending.{reply_of};
 ghost use Rattle.mount_shared.specs.Groups.{is_on_files};
-ghost use Rattle.mount_shared.specs.Lends.{LendsBlocks};
+ghost use Rattle.mount_shared.specs.PendingBlocks.{IsPendingOfHandle};
 ghost use Rattle.mount_shared.specs.Made.{IsMade};
-ghost use Rattle.mount_shared.specs.TellsOfOthers.{ClosesOwn};
+ghost use Rattle.mount_shared.specs.OtherReports.{ClosesOwn};
 
-use mount_files::{Lent, close, open_node, read_begin, write};
+use mount_files::{Pending, close, open_node, read_begin, write};
 use mount_model::{Call, Op};
 use mount_state::MountState;
 use name_crypt::Steps;
@@ -22,14 +22,14 @@ pub(crate) fn answer_on_files<L: Ledger>(
     caller: u32,
     call: &Call,
     steps: &mut Steps<L>,
-) -> Lent
+) -> Pending
     requires { IsTrue (is_on_files call.now.op) }
     ensures made { IsMade state.old (entry caller call.now (reply_of result)) state.new }
-    ensures lends { LendsBlocks state.old caller call.now.op result }
+    ensures pending_read { IsPendingOfHandle state.old caller call.now.op result }
     ensures closes { ClosesOwn state.old caller call.now.op (reply_of result) }
 {
     match &call.op {
-        Op::OpenNode { path } => Lent::Ready(open_node(alloc, state, caller, path, steps)),
+        Op::OpenNode { path } => Pending::Ready(open_node(alloc, state, caller, path, steps)),
         Op::Read {
             handle,
             offset,
@@ -39,8 +39,8 @@ pub(crate) fn answer_on_files<L: Ledger>(
             handle,
             offset,
             bytes,
-        } => Lent::Ready(write(alloc, state, caller, *handle, *offset, bytes)),
-        Op::Close { handle } => Lent::Ready(close(state, caller, *handle)),
+        } => Pending::Ready(write(alloc, state, caller, *handle, *offset, bytes)),
+        Op::Close { handle } => Pending::Ready(close(state, caller, *handle)),
         _ => unreachable!(),
     }
 }

@@ -5,7 +5,7 @@ ghost use Rattle.call_history.specs.Entries.{entry};
 ghost use Rattle.mount_shared.specs.DropsCaches.{DropsCaches};
 ghost use Rattle.mount_shared.specs.Groups.{is_on_keys};
 ghost use Rattle.mount_shared.specs.Made.{IsMade};
-ghost use Rattle.mount_shared.specs.TellsOfKeys.{AbsentIsGone, BusyIsOpen};
+ghost use Rattle.mount_shared.specs.KeyReports.{AbsentHoldsNothing, BusyIsOpen};
 
 use mount_keys::{add_key, drop_caches, key_status, remove_key, remove_key_all};
 use mount_model::{Call, Op, Reply};
@@ -16,7 +16,7 @@ use std::alloc::Global;
 pub(crate) fn reply_on_keys(alloc: Global, state: &mut MountState, call: &Call) -> Reply
     requires { IsTrue (is_on_keys call.now.op) }
     ensures made { (caller : ℕ) → IsMade state.old (entry caller call.now result) state.new }
-    ensures absent { AbsentIsGone state.new call.now.op result }
+    ensures absent { AbsentHoldsNothing state.new call.now.op result }
     ensures busy { BusyIsOpen state.new call.now.op result }
     ensures drops { DropsCaches state.old state.new call.now.op }
 {

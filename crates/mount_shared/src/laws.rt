@@ -4,7 +4,7 @@ ghost use Rattle.std.specs.Prelude.{◌≡◌, ℕ, Bool, false};
 ghost use Rattle.policy_ctx.specs.declared.policy.KeyId.{KeyId};
 ghost use Rattle.user_claims.specs.Claims.{ClaimSet, without_claim};
 ghost use Rattle.user_claims.specs.ClaimCounts.{is_present};
-ghost use Rattle.mount_model.specs.Lawful.{TellsBy};
+ghost use Rattle.mount_model.specs.Lawful.{ReportsClaims};
 ghost use Rattle.mount_shared.specs.declared.mount.Mount.{Mount};
 
 use mount_model::{Op, Reply};
@@ -16,10 +16,10 @@ pub fn a_mount_is_its_state()
 
 /// Whatever raw keys were added, a removal of all claims reports that none is left. A user's removal
 /// reports exactly whether another user's claim is left.
-pub fn removals_tell_which_claims_are_left()
+pub fn removals_report_remaining_claims()
     ensures all { (claims : ClaimSet) (uid : ℕ) (id : KeyId) (others busy : Bool)
-        → TellsBy claims uid (Op.RemoveKeyAll id) (Reply.Removed others busy) → others ≡ false }
+        → ReportsClaims claims uid (Op.RemoveKeyAll id) (Reply.Removed others busy) → others ≡ false }
     ensures own { (claims : ClaimSet) (uid : ℕ) (id : KeyId) (others busy : Bool)
-        → TellsBy claims uid (Op.RemoveKey id) (Reply.Removed others busy)
+        → ReportsClaims claims uid (Op.RemoveKey id) (Reply.Removed others busy)
         → others ≡ is_present (without_claim claims id uid) id }
 {}

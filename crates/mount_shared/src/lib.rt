@@ -14,7 +14,7 @@ mod record_answers;
 mod serial;
 mod shared_port;
 
-pub use laws::{a_mount_is_its_state, removals_tell_which_claims_are_left};
+pub use laws::{a_mount_is_its_state, removals_report_remaining_claims};
 pub use machine::MountMachine;
 pub use mount::Mount;
 pub use serial::{SerialMount, SerialPort};

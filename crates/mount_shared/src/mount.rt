@@ -1,7 +1,7 @@
 //! The mount, as a machine.
 ghost use Rattle.std.specs.Prelude.{◌≡◌, ◌≢◌, true, false, [], ◌∷◌, ◌++◌, IfOk};
 ghost use Rattle.call_history.specs.Entries.{entry};
-ghost use Rattle.mount_files.specs.Lent.{reply_of};
+ghost use Rattle.mount_files.specs.Pending.{reply_of};
 ghost use Rattle.mount_model.specs.Answer.{answer_of};
 ghost use Rattle.mount_model.specs.ClaimHistory.{is_refused};
 ghost use Rattle.mount_model.specs.Fits.{Fits};
@@ -9,20 +9,20 @@ ghost use Rattle.mount_model.specs.History.{History};
 ghost use Rattle.mount_model.specs.Lawful.{IsLawful};
 ghost use Rattle.mount_model.specs.PlainMount.{PlainMount};
 ghost use Rattle.mount_model.specs.Step.{takes_memory};
-ghost use Rattle.mount_state.specs.Given.{IsRefusedAsDue};
+ghost use Rattle.mount_state.specs.AnswerOf.{IsExpectedRefusal};
 ghost use Rattle.mount_state.specs.SameButCaches.{SameButCaches};
-ghost use Rattle.mount_state.specs.StandsFor.{StandsFor};
+ghost use Rattle.mount_state.specs.Represents.{Represents};
 ghost use Rattle.mount_shared.specs.DropsCaches.{DropsCaches};
-ghost use Rattle.mount_shared.specs.Lends.{LendsBlocks};
+ghost use Rattle.mount_shared.specs.PendingBlocks.{IsPendingOfHandle};
 ghost use Rattle.mount_shared.specs.Made.{IsMade};
-ghost use Rattle.mount_shared.specs.StandsAfter.{StandsAfter};
-ghost use Rattle.mount_shared.specs.StandsLaws.{StandsAfter-wanting};
-ghost use Rattle.mount_shared.specs.TellsOfKeys.{AbsentIsGone, BusyIsOpen};
-ghost use Rattle.mount_shared.specs.TellsOfOthers.{ClosesOwn, TellsRecords};
+ghost use Rattle.mount_shared.specs.IsStateAfter.{IsStateAfter};
+ghost use Rattle.mount_shared.specs.StateLaws.{IsStateAfter-wanting};
+ghost use Rattle.mount_shared.specs.KeyReports.{AbsentHoldsNothing, BusyIsOpen};
+ghost use Rattle.mount_shared.specs.OtherReports.{ClosesOwn, ReportsRecords};
 
 use crate::answers::answer;
 use crate::machine::MountMachine;
-use mount_files::Lent;
+use mount_files::Pending;
 use mount_model::{Call, Refusal, Reply};
 use mount_state::MountState;
 use std::alloc::{AllocError, Global};
@@ -40,7 +40,7 @@ pub struct Mount {
 impl Mount {
     /// Returns the empty mount, before any call: its root alone. AllocError if there is no memory for it.
     pub fn new(alloc: Global) -> Result<Mount, AllocError>
-        ensures { IfOk result (λ mount. StandsAfter [] mount.state) }
+        ensures { IfOk result (λ mount. IsStateAfter [] mount.state) }
     {
         let state = MountState::new(alloc)?;
         Ok(Mount { alloc, state })
@@ -58,19 +58,19 @@ impl Mount {
     ///
     /// If the state represents a mount whose answer is a refusal, the reply is that one, even if there is
     /// no memory.
-    pub fn answer(&mut self, caller: u32, call: &Call) -> Lent
+    pub fn answer(&mut self, caller: u32, call: &Call) -> Pending
         requires { Fits call.now }
         ensures made { IsMade self.old.state (entry caller call.now (reply_of result)) self.new.state }
-        ensures absent { AbsentIsGone self.new.state call.now.op (reply_of result) }
+        ensures absent { AbsentHoldsNothing self.new.state call.now.op (reply_of result) }
         ensures busy { BusyIsOpen self.new.state call.now.op (reply_of result) }
         ensures drops { DropsCaches self.old.state self.new.state call.now.op }
-        ensures lends { LendsBlocks self.old.state caller call.now.op result }
+        ensures pending_read { IsPendingOfHandle self.old.state caller call.now.op result }
         ensures closes { ClosesOwn self.old.state caller call.now.op (reply_of result) }
-        ensures records { TellsRecords self.old.state call.now.op (reply_of result) }
+        ensures records { ReportsRecords self.old.state call.now.op (reply_of result) }
         ensures refused { is_refused (reply_of result) ≡ true → SameButCaches self.old.state self.new.state }
         ensures sure { takes_memory call.now.op ≡ false → reply_of result ≢ Reply.Refused Refusal.NoMemory }
-        ensures due { (m : PlainMount) → StandsFor self.old.state m
-            → IsRefusedAsDue (answer_of m caller call.now) (reply_of result) }
+        ensures due { (m : PlainMount) → Represents self.old.state m
+            → IsExpectedRefusal (answer_of m caller call.now) (reply_of result) }
     {
         answer::<Brand>(self.alloc, &mut self.state, caller, call, Blank::new(1))
     }
@@ -81,7 +81,7 @@ impl Mount {
 impl Machine for Mount {
     type Call = Call;
 
-    type Lent = Lent;
+    type Pending = Pending;
 
     type Reply = Reply;
 
@@ -91,37 +91,37 @@ impl Machine for Mount {
 
     ghost lawful = { IsLawful };
 
-    ghost leads = { λ history mount. StandsAfter history mount.state };
+    ghost reaches = { λ history mount. IsStateAfter history mount.state };
 
-    fn begin(&mut self, who: u32, call: &Call) -> Lent
+    fn begin(&mut self, who: u32, call: &Call) -> Pending
         requires { Fits call.now }
-        ensures leads { (history : History) → StandsAfter history self.old.state
-            → StandsAfter (history ++ entry who call.now (reply_of result) ∷ []) self.new.state }
+        ensures reaches { (history : History) → IsStateAfter history self.old.state
+            → IsStateAfter (history ++ entry who call.now (reply_of result) ∷ []) self.new.state }
         ensures made { IsMade self.old.state (entry who call.now (reply_of result)) self.new.state }
-        ensures absent { AbsentIsGone self.new.state call.now.op (reply_of result) }
+        ensures absent { AbsentHoldsNothing self.new.state call.now.op (reply_of result) }
         ensures busy { BusyIsOpen self.new.state call.now.op (reply_of result) }
         ensures drops { DropsCaches self.old.state self.new.state call.now.op }
-        ensures lends { LendsBlocks self.old.state who call.now.op result }
+        ensures pending_read { IsPendingOfHandle self.old.state who call.now.op result }
         ensures closes { ClosesOwn self.old.state who call.now.op (reply_of result) }
-        ensures records { TellsRecords self.old.state call.now.op (reply_of result) }
+        ensures records { ReportsRecords self.old.state call.now.op (reply_of result) }
         ensures refused { is_refused (reply_of result) ≡ true → SameButCaches self.old.state self.new.state }
         ensures sure { takes_memory call.now.op ≡ false → reply_of result ≢ Reply.Refused Refusal.NoMemory }
-        ensures due { (m : PlainMount) → StandsFor self.old.state m
-            → IsRefusedAsDue (answer_of m who call.now) (reply_of result) }
+        ensures due { (m : PlainMount) → Represents self.old.state m
+            → IsExpectedRefusal (answer_of m who call.now) (reply_of result) }
     {
         self.answer(who, call)
     }
 
-    fn finish(lent: Lent) -> Reply {
+    fn finish(lent: Pending) -> Reply {
         lent.finish()
     }
 
-    ghost leads_lawful = { λ history mount led. led.lawful };
+    ghost reaches_lawful = { λ history mount reached_by. reached_by.lawful };
 }
 
 impl MountMachine for Mount {
     ghost takes_fitting = { λ call fits. fits };
 
-    ghost leads_without_memory = { λ history mount caller call fits takes led.
-        StandsAfter-wanting history caller call mount.state takes led };
+    ghost leads_without_memory = { λ history mount caller call fits takes reached_by.
+        IsStateAfter-wanting history caller call mount.state takes reached_by };
 }

@@ -2,11 +2,11 @@
 
 ghost use Rattle.std.specs.Prelude.{◌≡◌, ◌+◌, ◌<◌, ◌≤◌, [], ◌∷◌, ◌++◌};
 ghost use Rattle.call_history.specs.Entries.{entry};
-ghost use Rattle.call_history.specs.declared.TheConstants.{MOST_PLACES};
+ghost use Rattle.call_history.specs.declared.TheConstants.{MAX_PLACES};
 ghost use Rattle.mount_model.specs.Fits.{Fits};
 ghost use Rattle.mount_model.specs.History.{History};
-ghost use Rattle.mount_shared.specs.SerialCalls.{SerialCame, serial_view};
-ghost use Rattle.mount_shared.specs.PortLaws.{SerialCame-none, SerialCame-on, SerialCame-caller};
+ghost use Rattle.mount_shared.specs.SerialCalls.{SerialAfterCalls, serial_view};
+ghost use Rattle.mount_shared.specs.PortLaws.{SerialAfterCalls-none, SerialAfterCalls-on, SerialAfterCalls-caller};
 
 use crate::machine::MountMachine;
 use mount_model::{Call, MountPort, Placed, Reply};
@@ -30,7 +30,7 @@ impl<M: MountMachine> SerialMount<M> {
 
     /// Returns the port of a caller, with `left` calls.
     pub fn port(self, caller: u32, left: u64) -> SerialPort<M>
-        requires { self.places + left ≤ MOST_PLACES }
+        requires { self.places + left ≤ MAX_PLACES }
         ensures { result ≡ serial_view self.machine self.places caller left }
     {
         SerialPort {
@@ -51,14 +51,14 @@ pub struct SerialPort<M: MountMachine> {
 
 impl<M: MountMachine> Model for SerialPort<M> {
     ghost use Rattle.std.specs.Prelude.{◌+◌, ◌≤◌};
-    ghost use Rattle.call_history.specs.declared.TheConstants.{MOST_PLACES};
+    ghost use Rattle.call_history.specs.declared.TheConstants.{MAX_PLACES};
     ghost use Rattle.mount_shared.specs.SerialCalls.{SerialView, serial_view};
 
     ghost Value = { SerialView M };
 
     ghost view = { λ port. serial_view port.mount.machine port.mount.places port.caller port.left };
 
-    ghost invariant = { λ port. port.mount.places + port.left ≤ MOST_PLACES };
+    ghost invariant = { λ port. port.mount.places + port.left ≤ MAX_PLACES };
 }
 
 impl<M: MountMachine> SerialPort<M> {
@@ -89,8 +89,8 @@ impl<M: MountMachine> SerialPort<M> {
 // Returns the machine's reply to a call, with no other call in progress.
 fn ask<M: MountMachine>(machine: &mut M, caller: u32, call: &Call) -> Reply
     requires { Fits call.now }
-    ensures { (history : History) → M.leads history machine.old
-        → M.leads (history ++ entry caller call.now result ∷ []) machine.new }
+    ensures { (history : History) → M.reaches history machine.old
+        → M.reaches (history ++ entry caller call.now result ∷ []) machine.new }
 {
     let lent = machine.begin(caller, call);
     M::finish(lent)
@@ -104,7 +104,7 @@ impl<M: MountMachine> MountPort for SerialPort<M> {
 
     ghost floor = { λ port. port.places };
 
-    ghost came = { SerialCame M.leads };
+    ghost after_calls = { SerialAfterCalls M.reaches };
 
     fn caller(&self) -> u32 {
         self.caller
@@ -120,9 +120,9 @@ impl<M: MountMachine> MountPort for SerialPort<M> {
         Placed { place, reply }
     }
 
-    ghost by_none = { SerialCame-none M.leads };
+    ghost by_none = { SerialAfterCalls-none M.reaches };
 
-    ghost by_more = { SerialCame-on M.leads };
+    ghost by_more = { SerialAfterCalls-on M.reaches };
 
-    ghost one_caller = { SerialCame-caller M.leads };
+    ghost one_caller = { SerialAfterCalls-caller M.reaches };
 }

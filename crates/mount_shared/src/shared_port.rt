@@ -1,14 +1,14 @@
 //! A caller's way to a machine that threads share.
 
 ghost use Rattle.std.specs.Prelude.{◌≡◌, length};
-ghost use Rattle.mount_shared.specs.SharedCalls.{PassCame};
-ghost use Rattle.mount_shared.specs.PassLaws.{PassCame-none, PassCame-on, PassCame-caller};
+ghost use Rattle.mount_shared.specs.SharedCalls.{PassAfterCalls};
+ghost use Rattle.mount_shared.specs.PassLaws.{PassAfterCalls-none, PassAfterCalls-on, PassAfterCalls-caller};
 
 use crate::machine::MountMachine;
 use mount_model::{Call, MountPort, Placed, Reply};
 use std::marker::Model;
 use std::sync::Wait;
-use turn_lock::{At, Pass, Shared, Worn};
+use turn_lock::{At, Pass, PassExhausted, Shared};
 
 /// The port of a pass: each call waits for the turn of the shared machine. In clauses it is its pass.
 #[derive(Drop)]
@@ -67,7 +67,7 @@ impl<'a, M: MountMachine, W: Wait> MountPort for SharedPort<'a, M, W> {
 
     ghost floor = { λ pass. length pass.seen };
 
-    ghost came = { PassCame M.lawful };
+    ghost after_calls = { PassAfterCalls M.lawful };
 
     fn caller(&self) -> u32 {
         self.pass.who()
@@ -80,13 +80,13 @@ impl<'a, M: MountMachine, W: Wait> MountPort for SharedPort<'a, M, W> {
     fn call(&mut self, call: &Call) -> Placed {
         match self.shared.call(self.rt, &mut self.pass, call) {
             Ok(at) => placed(at),
-            Err(Worn { made: _ }) => unreachable!(),
+            Err(PassExhausted { made: _ }) => unreachable!(),
         }
     }
 
-    ghost by_none = { PassCame-none M.lawful };
+    ghost by_none = { PassAfterCalls-none M.lawful };
 
-    ghost by_more = { PassCame-on M.lawful };
+    ghost by_more = { PassAfterCalls-on M.lawful };
 
-    ghost one_caller = { PassCame-caller M.lawful };
+    ghost one_caller = { PassAfterCalls-caller M.lawful };
 }

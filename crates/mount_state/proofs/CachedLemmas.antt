@@ -8,9 +8,9 @@ use Rattle.policy_ctx.specs.Context.{id_in}
 use Rattle.number_map.specs.Numbered.{get}
 use Rattle.user_claims.specs.Claims.{ClaimSet}
 use Rattle.user_claims.specs.ClaimCounts.{is_present}
-use Rattle.dentry_cache.specs.Names.{Pair, NameList, key_of, is_name, cached}
+use Rattle.dentry_cache.specs.Names.{Pair, NameList, key_of, is_name, cached_node}
 use Rattle.dentry_cache.specs.HeldNames.{HoldsNoMore, HoldsBeside}
-use Rattle.dentry_cache.specs.NameChanges.{one_more, one_more_refused}
+use Rattle.dentry_cache.specs.NameChanges.{one_more, with_one_more_refused}
 use Rattle.dentry_cache.specs.declared.key.NameKey.{NameKey}
 use Rattle.dentry_cache.proofs.NameLemmas.{same_name, Contains-lookup}
 use Rattle.plain_tree.specs.Nodes.{Name, Node, Nodes, Body, Dir, File, Link}
@@ -18,7 +18,7 @@ use Rattle.plain_tree.specs.NodesByNumber.{children, context_at, is_dir_in, entr
 use Rattle.plain_tree.specs.Facts.{AgreesBy}
 use Rattle.key_ring.specs.Holding.{Holding}
 use Rattle.key_ring.specs.Modes.{Modes}
-use Rattle.inode_refs.specs.Cached.{Cache}
+use Rattle.inode_refs.specs.CacheMaps.{Cache}
 use Rattle.disk_tree.specs.DiskTree.{Disk, IsDirAt, of_node}
 use Rattle.disk_tree.specs.Nodes.{IsDir}
 use Rattle.disk_tree.specs.declared.node.StoredNode.{StoredNode}
@@ -28,14 +28,14 @@ use Rattle.mount_model.specs.PlainMount.{PlainMount, HandleList}
 use Rattle.mount_model.specs.OpenHandles.{has_handle}
 use Rattle.mount_model.specs.Sealed.{texts}
 use Rattle.mount_model.specs.States as plain
-use Rattle.mount_state.specs.CachedNames.{NamesForget, NamesStand, IsKept, is_dir_body, is_dir_on_disk, is_dir_node as is_stored_dir}
-use Rattle.mount_state.specs.Held.{is_unlocked, is_unlocked_under}
-use Rattle.mount_state.specs.Led.{led_to}
+use Rattle.mount_state.specs.CachedNames.{NamesForget, RepresentsNames, IsCachedOrCounted, is_dir_body, is_dir_on_disk, is_dir_node as is_stored_dir}
+use Rattle.mount_state.specs.KeyUse.{is_unlocked, is_unlocked_under}
+use Rattle.mount_state.specs.Resolution.{resolved_node}
 use Rattle.mount_state.specs.Handles.{Handles}
 use Rattle.mount_state.specs.SameBut.{SameBut, CachedNames}
 use Rattle.mount_state.specs.SameButCaches.{StaysFor}
-use Rattle.mount_state.specs.StandsFor.{TreeStands, KeysStand, HandlesStand}
-use Rattle.mount_state.specs.CachedKeys.{CachesStand}
+use Rattle.mount_state.specs.Represents.{RepresentsTree, RepresentsKeys, RepresentsHandles}
+use Rattle.mount_state.specs.CachedKeys.{RepresentsCaches}
 use Rattle.mount_state.specs.declared.state.MountState.{MountState}
 use Rattle.mount_state.specs.Stored.{stored_node}
 use Rattle.mount_state.proofs.LedLemmas.{value_found}
@@ -87,11 +87,11 @@ keyed_more before after held left node claims handles (Some context) is =
 
 -- ---- what they represent
 
-module _ (nodes : Nodes) (old new : NameList) (stand : NamesStand old nodes) where
-  pub stand_fewer : HoldsNoMore old new → NamesStand new nodes
+module _ (nodes : Nodes) (old new : NameList) (stand : RepresentsNames old nodes) where
+  pub stand_fewer : HoldsNoMore old new → RepresentsNames new nodes
   stand_fewer fewer = record { entries = λ pair held. stand.entries pair (fewer pair held) }
 
-  pub stand_beside : (more : Pair) → HoldsBeside old new more → entry nodes more.0.dir more.0.name ≡ Some more.1 → NamesStand new nodes
+  pub stand_beside : (more : Pair) → HoldsBeside old new more → entry nodes more.0.dir more.0.name ≡ Some more.1 → RepresentsNames new nodes
   stand_beside more beside leads = record {
     entries = λ pair held. elim (beside pair held) [
       | inl was ↦ stand.entries pair was
@@ -102,18 +102,18 @@ module _ (nodes : Nodes) (old new : NameList) (stand : NamesStand old nodes) whe
 -- ---- a name that is cached
 
 -- it is that of a pair
-pub pair_of : (names : NameList) (dir : ℕ) (name : Name) (number : ℕ) → cached names dir name ≡ Some number → Contains names.pairs (key_of dir name, number)
+pub pair_of : (names : NameList) (dir : ℕ) (name : Name) (number : ℕ) → cached_node names dir name ≡ Some number → Contains names.pairs (key_of dir name, number)
 pair_of names dir name number is =
     let found = Contains-lookup (is_name dir name) names.pairs number is in
     subst (λ (k : NameKey). Contains names.pairs (k, number)) (sym (same_name dir name found.0 found.2)) found.1
 
 -- in a keyed directory a part resolves as the entry of this name does
-pub keyed_led : (m : PlainMount) (dir : ℕ) (part : Name) → plain.is_keyed m dir ≡ true → entry m.nodes dir part ≡ led_to m dir part
+pub keyed_led : (m : PlainMount) (dir : ℕ) (part : Name) → plain.is_keyed m dir ≡ true → entry m.nodes dir part ≡ resolved_node m dir part
 keyed_led m dir part keyed =
     ap (λ (f : Name → Name). lookup (λ name. bytes_eq part (f name)) (children m.nodes dir)) (λ i name. sym (shown_plain name) i)
     ∙ value_found (λ name. bytes_eq part (plain.shown m dir name)) (children m.nodes dir)
   where
-    by_context : (o : Option Context) → plain.is_keyed m dir ≡ true → (name : Name) → plain.shown_under m dir name o ≡ name
+    by_context : (o : Option Context) → plain.is_keyed m dir ≡ true → (name : Name) → plain.visible_name_under m dir name o ≡ name
     by_context None is name = refl
     by_context (Some c) is name = ap (λ b. cond b name (texts m.raws dir c name)) is
 
@@ -135,7 +135,7 @@ dir_told disk dir = of (get disk dir)
     of (Some v) is = of_body v.body is
 
 -- so it is in the mount
-pub dir_stands : (disk : Disk) (next : ℕ) (m : PlainMount) → TreeStands disk next m → (dir : ℕ) → IsDirAt disk dir → is_plain_dir m.nodes dir ≡ true
+pub dir_stands : (disk : Disk) (next : ℕ) (m : PlainMount) → RepresentsTree disk next m → (dir : ℕ) → IsDirAt disk dir → is_plain_dir m.nodes dir ≡ true
 dir_stands disk next m tree dir is = of (get m.nodes dir) (subst (of_node ⊥ (λ node. IsDir node.body)) (tree.nodes dir) is)
   where
     of_body : (named : Bool) (context : Option Context) (b : Body)
@@ -152,7 +152,7 @@ dir_stands disk next m tree dir is = of (get m.nodes dir) (subst (of_node ⊥ (�
 -- ---- a name that is cached
 
 pub kept_or_counted : {T E : Type 0} (r : Result T E) (first old new : NameList) (dir : ℕ) (name : Name) (number : ℕ) → old.refused ≡ first.refused
-    → OnOk r (cached new dir name ≡ Some number) → OnErr r (new ≡ one_more_refused old) → IsKept first new dir name number
+    → OnOk r (cached_node new dir name ≡ Some number) → OnErr r (new ≡ with_one_more_refused old) → IsCachedOrCounted first new dir name number
 kept_or_counted (Ok x) first old new dir name number same kept counted = inl kept
 kept_or_counted (Err e) first old new dir name number same kept counted =
     inr (ap (λ (n : NameList). n.refused) counted ∙ ap one_more same)
@@ -169,10 +169,10 @@ fewer_names_stand old new same fewer = λ m st. record {
     nodes = subst (λ (d : Disk). AgreesBy (stored_node m.raws) m.nodes d) (sym same.disk) st.tree.nodes;
     next = same.next_node ∙ st.tree.next;
   };
-  keys = subst (λ (r : Holding). KeysStand r m) (sym same.ring) st.keys;
-  handles = subst (λ (h : Handles). HandlesStand h m) (sym same.handles) st.handles;
-  caches = subst (λ (x : Modes). CachesStand new.inodes x m) (sym same.modes)
-      (subst (λ (x : Cache). CachesStand x old.modes m) (sym (same_cache old.inodes new.inodes same.keys same.pins)) st.caches);
+  keys = subst (λ (r : Holding). RepresentsKeys r m) (sym same.ring) st.keys;
+  handles = subst (λ (h : Handles). RepresentsHandles h m) (sym same.handles) st.handles;
+  caches = subst (λ (x : Modes). RepresentsCaches new.inodes x m) (sym same.modes)
+      (subst (λ (x : Cache). RepresentsCaches x old.modes m) (sym (same_cache old.inodes new.inodes same.keys same.pins)) st.caches);
   names = stand_fewer m.nodes old.names new.names st.names fewer;
   records = same.meta ∙ st.records;
 }

@@ -12,7 +12,7 @@ use Rattle.mount_model.specs.SoundNodes.{HasRaw}
 use Rattle.mount_state.specs.Contexts as disk
 use Rattle.mount_state.specs.Contexts.{has_own, has_shared, uses_own, uses_mode}
 use Rattle.mount_state.specs.StoredKinds.{same_kind}
-use Rattle.mount_state.specs.StandsFor.{TreeStands}
+use Rattle.mount_state.specs.Represents.{RepresentsTree}
 use Rattle.mount_state.proofs.StandLemmas.{context_is}
 
 pub same_some : {X : Type 0} (a b : X) → Some a ≡ Some b → a ≡ b
@@ -24,7 +24,7 @@ none_of f (Some x) is = absurd (cc)
 
 -- ---- what is on the disk of a context
 
-module _ (on_disk : Disk) (next : ℕ) (m : PlainMount) (well : IsWellFormed m) (tree : TreeStands on_disk next m) (d : ℕ) where
+module _ (on_disk : Disk) (next : ℕ) (m : PlainMount) (well : IsWellFormed m) (tree : RepresentsTree on_disk next m) (d : ℕ) where
   -- without one there is no policy
   pub no_context : disk.context_on_disk (get on_disk d) ≡ None → context_at m.nodes d ≡ None
   no_context none = none_of context_bytes (context_at m.nodes d) (sym none ∙ context_is on_disk next m well tree d)

@@ -15,10 +15,10 @@ use Rattle.mount_model.specs.PlainMount.{PlainMount}
 use Rattle.mount_model.specs.WellFormed.{IsWellFormed}
 use Rattle.mount_model.specs.SoundNodes.{IsName}
 use Rattle.mount_model.specs.Sealed.{texts}
-use Rattle.mount_model.specs.States.{is_keyed, shown_under, shown}
-use Rattle.mount_model.specs.Walk.{found}
+use Rattle.mount_model.specs.States.{is_keyed, visible_name_under, shown}
+use Rattle.mount_model.specs.Walk.{visible_entry}
 use Rattle.mount_state.specs.Stored.{stored_node, stored_form}
-use Rattle.mount_state.specs.StandsFor.{TreeStands}
+use Rattle.mount_state.specs.Represents.{RepresentsTree}
 
 abbrev number_in : Option (Name × ℕ) → Option ℕ
 number_in o = option_map (λ (e : Name × ℕ). e.1) o
@@ -43,7 +43,7 @@ some_number None there = absurd (cc)
 name_plain : (name : Name) → IsName name → IsPlain name
 name_plain name is = (is.0.size.0, is.1, is.0.nul)
 
-module _ (disk : Disk) (next : ℕ) (m : PlainMount) (well : IsWellFormed m) (stands : TreeStands disk next m) (d : ℕ) where
+module _ (disk : Disk) (next : ℕ) (m : PlainMount) (well : IsWellFormed m) (represents : RepresentsTree disk next m) (d : ℕ) where
   of_body : (context : Option Context) (named : Bool) (body : Body)
       → disk_tree.entries_in (Some (stored_node m.raws d (record { named = named; context = context; body = body })))
       ≡ stored_children (stored_form m.raws d context) (children_in (Some (record { named = named; context = context; body = body })))
@@ -56,7 +56,7 @@ module _ (disk : Disk) (next : ℕ) (m : PlainMount) (well : IsWellFormed m) (st
   of_node (Some v) = of_body v.context v.named v.body
 
   pub children_stand : disk_tree.children disk d ≡ stored_children (stored_form m.raws d (context_at m.nodes d)) (children m.nodes d)
-  children_stand = ap disk_tree.entries_in (stands.nodes d) ∙ of_node (get m.nodes d)
+  children_stand = ap disk_tree.entries_in (represents.nodes d) ∙ of_node (get m.nodes d)
 
   -- the names that are there
   pub name_there : (name : Name) → IsNameOf (children m.nodes d) name → IsName name
@@ -73,10 +73,10 @@ module _ (disk : Disk) (next : ℕ) (m : PlainMount) (well : IsWellFormed m) (st
   module _ (c : Context) (under : context_at m.nodes d ≡ Some c) where
     -- with its key names are visible as they are
     shown_plain : is_keyed m d ≡ true → (name : Name) → shown m d name ≡ name
-    shown_plain keyed name = ap (shown_under m d name) under ∙ ap (λ b. cond b name (texts m.raws d c name)) keyed
+    shown_plain keyed name = ap (visible_name_under m d name) under ∙ ap (λ b. cond b name (texts m.raws d c name)) keyed
 
     -- a part that is no name is none of those that are there
-    pub none_found : is_keyed m d ≡ true → (part : Name) → ¬ IsPlain part → number_in (found m d part) ≡ None
+    pub none_found : is_keyed m d ≡ true → (part : Name) → ¬ IsPlain part → number_in (visible_entry m d part) ≡ None
     none_found keyed part other =
         sym (by_tests (λ _. false) (λ name. bytes_eq part (shown m d name)) (λ name there.
         same_bools false (bytes_eq part (shown m d name)) (λ wrong. absurd (cc))

@@ -13,7 +13,7 @@ use Rattle.number_map.proofs.NumberedLemmas.{insert_other}
 use Rattle.user_claims.specs.Claims.{ClaimSet, id_cmp, no_claims}
 use Rattle.key_ring.specs.Modes.{Modes, no_modes, mode_at}
 use Rattle.key_ring.specs.declared.mode_key.ModeKey.{ModeKey}
-use Rattle.inode_refs.specs.Cached.{Cache, no_cache, key_at}
+use Rattle.inode_refs.specs.CacheMaps.{Cache, no_cache, key_at}
 use Rattle.inode_refs.specs.declared.node_key.NodeKey.{NodeKey}
 use Rattle.dentry_cache.specs.Names.{NameList, no_names}
 use Rattle.dentry_cache.proofs.NameLemmas.{none_held}
@@ -29,7 +29,7 @@ use Rattle.mount_state.specs.CachedNames.{NamesForget}
 use Rattle.mount_state.specs.Discipline.{Forgets}
 use Rattle.mount_state.specs.Safe.{IsSafe}
 use Rattle.mount_state.specs.Stored.{stored_node}
-use Rattle.mount_state.specs.StandsFor.{StandsFor}
+use Rattle.mount_state.specs.Represents.{Represents}
 use Rattle.mount_state.specs.declared.state.MountState.{MountState}
 
 -- ---- nothing is cached
@@ -104,7 +104,7 @@ first_agree : (raws : Raws) → AgreesBy (stored_node raws) first_nodes first_di
 first_agree raws = agree_inserted (stored_node raws) empty empty (none_agree raws) 0 _ root refl
 
 pub first_stands : (s : MountState) → s.disk ≡ first_disk → s.next_node ≡ 1 → s.ring.claims ≡ no_claims → s.ring.secrets ≡ map.empty → s.meta ≡ []
-    → s.inodes ≡ no_cache → s.handles ≡ no_handles → s.modes ≡ no_modes → s.names ≡ no_names → StandsFor s empty_mount
+    → s.inodes ≡ no_cache → s.handles ≡ no_handles → s.modes ≡ no_modes → s.names ≡ no_names → Represents s empty_mount
 first_stands s disk next claims secrets meta inodes handles modes names = record {
   well = empty_well;
   tree = record {

@@ -11,7 +11,7 @@ use Rattle.std.specs.BTreeMap.{BTreeMap}
 use Rattle.std.proofs.lemmas.Bool.{cases_eq, cases_Bool, and_parts, or_cases, or_parts, true≢false, eqb-true, eq-eqb, leb-false}
 use Rattle.std.proofs.lemmas.List.Folds.{find-append, list_any-append}
 use Rattle.std.proofs.lemmas.Map.Lookups.{exact_pairs, exact_unsigned}
-use Rattle.number_map.specs.Numbered.{Numbered, insert}
+use Rattle.number_map.specs.Numbered.{NumberedValues, insert}
 use Rattle.number_map.proofs.NumberedLemmas.{insert_here, insert_other}
 use Rattle.key_counts.proofs.CountLemmas.{tied}
 use Rattle.key_counts.proofs.ShownLemmas.{get-shown, shown-inserted}
@@ -19,7 +19,7 @@ use Rattle.mount_model.specs.declared.handle.Handle.{Handle}
 use Rattle.mount_model.specs.PlainMount.{HandleList}
 use Rattle.mount_model.specs.OpenHandles.{is_handle, node_of, without_handle, opens_of}
 use Rattle.mount_model.specs.SoundHandles.{is_live}
-use Rattle.mount_model.specs.declared.limits.TheConstants.{MOST_HANDLES, MOST_OPENS}
+use Rattle.mount_model.specs.declared.limits.TheConstants.{MAX_HANDLES, MAX_OPENS}
 use Rattle.mount_state.specs.KeptHandles.{pair_cmp, opened_in, IsIndexed}
 use Rattle.mount_state.proofs.LossLemmas.{single_put, fewer_left}
 
@@ -52,7 +52,7 @@ opened_more m n caller updates =
 pub opened_same : (m n : BTreeMap ℕ ℕ) → tree.IsUnchanged m n → opened_in n.entries ≡ opened_in m.entries
 opened_same m n same = ap opened_in same
 
-pub index_same : (live : HandleList) (index after : BTreeMap (ℕ × ℕ) ℕ) (opened : Numbered ℕ) → IsIndexed live index opened → tree.IsUnchanged index after
+pub index_same : (live : HandleList) (index after : BTreeMap (ℕ × ℕ) ℕ) (opened : NumberedValues ℕ) → IsIndexed live index opened → tree.IsUnchanged index after
     → IsIndexed live after opened
 index_same live index after opened kept same = record {
   indexed = λ c n. ap (lookup (eq_by_cmp pair_cmp (c, n))) same ∙ kept.indexed c n;
@@ -118,7 +118,7 @@ some_left keep p (h ∷ hs) is = elim (cases_Bool (keep h)) [
 
 -- ---- opened
 
-module _ (live : HandleList) (index : BTreeMap (ℕ × ℕ) ℕ) (opened : Numbered ℕ) (kept : IsIndexed live index opened) (caller node : ℕ) where
+module _ (live : HandleList) (index : BTreeMap (ℕ × ℕ) ℕ) (opened : NumberedValues ℕ) (kept : IsIndexed live index opened) (caller node : ℕ) where
   abbrev count : ℕ
   count = opens_of opened caller
 
@@ -128,7 +128,7 @@ module _ (live : HandleList) (index : BTreeMap (ℕ × ℕ) ℕ) (opened : Numbe
   abbrev more : HandleList
   more = live ++ new ∷ []
 
-  abbrev counted : Numbered ℕ
+  abbrev counted : NumberedValues ℕ
   counted = insert opened caller (count + 1)
 
   unused : is_live live caller count ≡ false
@@ -223,7 +223,7 @@ module _ (live : HandleList) (index : BTreeMap (ℕ × ℕ) ℕ) (opened : Numbe
 
 -- ---- closed
 
-pub index_taken : (live : HandleList) (index after : BTreeMap (ℕ × ℕ) ℕ) (opened : Numbered ℕ) (caller number : ℕ) → IsIndexed live index opened
+pub index_taken : (live : HandleList) (index after : BTreeMap (ℕ × ℕ) ℕ) (opened : NumberedValues ℕ) (caller number : ℕ) → IsIndexed live index opened
     → ((q : ℕ × ℕ) → tree.get pair_cmp after q ≡ cond (eq_by_cmp pair_cmp (caller, number) q) None (tree.get pair_cmp index q)) → IsIndexed (without_handle caller number live) after opened
 index_taken live index after opened caller number kept taken = record {
   indexed = λ c n. taken (c, n) ∙ (elim (cases_Bool (eq_by_cmp pair_cmp (caller, number) (c, n))) [
@@ -254,8 +254,8 @@ index_taken live index after opened caller number kept taken = record {
 
 -- ---- capacity
 
-pub below_most : (live : HandleList) (opens : ℕ) → (nat_le MOST_HANDLES (length live) || nat_le MOST_OPENS opens) ≡ false → opens + 1 < 2 ^ 32
+pub below_most : (live : HandleList) (opens : ℕ) → (nat_le MAX_HANDLES (length live) || nat_le MAX_OPENS opens) ≡ false → opens + 1 < 2 ^ 32
 below_most live opens free =
-    let room = or_parts (nat_le MOST_HANDLES (length live)) (nat_le MOST_OPENS opens) free in
-    let below : opens < MOST_OPENS = leb-false MOST_OPENS opens room.1 in
+    let room = or_parts (nat_le MAX_HANDLES (length live)) (nat_le MAX_OPENS opens) free in
+    let below : opens < MAX_OPENS = leb-false MAX_OPENS opens room.1 in
     omega arith

@@ -16,7 +16,7 @@ use Rattle.number_map.proofs.NumberedLemmas.{insert_here, insert_other}
 use Rattle.user_claims.specs.Claims.{ClaimSet}
 use Rattle.user_claims.specs.ClaimCounts.{is_present}
 use Rattle.key_ring.specs.Modes.{Modes}
-use Rattle.inode_refs.specs.Cached.{Cache, key_at}
+use Rattle.inode_refs.specs.CacheMaps.{Cache, key_at}
 use Rattle.inode_refs.specs.declared.node_key.NodeKey.{NodeKey}
 use Rattle.disk_tree.specs.DiskTree.{Disk, IsDirAt, of_node}
 use Rattle.disk_tree.specs.Nodes.{IsDir}
@@ -35,8 +35,8 @@ use Rattle.mount_state.specs.StoredKinds.{disk_kind_of, kind_on_disk, is_of_kind
 use Rattle.mount_state.specs.Discipline.{Forgets}
 use Rattle.mount_model.specs.WellFormed.{IsWellFormed}
 use Rattle.mount_state.specs.Stored.{stored_node}
-use Rattle.mount_state.specs.StandsFor.{TreeStands}
-use Rattle.mount_state.specs.CachedKeys.{CachesStand, plain_kind}
+use Rattle.mount_state.specs.Represents.{RepresentsTree}
+use Rattle.mount_state.specs.CachedKeys.{RepresentsCaches, plain_kind}
 use Rattle.mount_state.proofs.StandLemmas.{context_is}
 use Rattle.mount_state.proofs.ContextLemmas.{id_sized}
 
@@ -82,9 +82,9 @@ module _ (cache : Cache) (node : ℕ) (id : KeyId) (key : FileKey) where
     pins = record { pinned = rule.pins.pinned; few = rule.pins.few };
   }
 
-  pub kept_stand : (modes : Modes) (m : PlainMount) → CachesStand cache modes m
+  pub kept_stand : (modes : Modes) (m : PlainMount) → RepresentsCaches cache modes m
       → ((c : Context) → context_at m.nodes node ≡ Some c → key ≡ node_key m.raws c (plain_kind (get m.nodes node)))
-      → CachesStand (with_key cache node id key) modes m
+      → RepresentsCaches (with_key cache node id key) modes m
   kept_stand modes m stand fresh = record {
     file_keys = λ n k c is under.
         each_cached (λ x y. (d : Context) → context_at m.nodes x ≡ Some d → y.key ≡ node_key m.raws d (plain_kind (get m.nodes x)))
@@ -135,7 +135,7 @@ same_context a b sized other is =
     let nonces : a.nonce ≡ b.nonce = sym (drop-context_bytes a sized) ∙ ap (drop 24) is ∙ drop-context_bytes b other in
     λ i. record { policy = policies i; nonce = nonces i }
 
-pub fresh_key : (on_disk : Disk) (next : ℕ) (m : PlainMount) → IsWellFormed m → TreeStands on_disk next m → (node : ℕ) (context : Context)
+pub fresh_key : (on_disk : Disk) (next : ℕ) (m : PlainMount) → IsWellFormed m → RepresentsTree on_disk next m → (node : ℕ) (context : Context)
     → disk.context_on_disk (get on_disk node) ≡ Some (context_bytes context) → length context.policy.id.0 ≡ 16 → context.policy.by_mode ≡ false
     → IsDirAt on_disk node → (secret : List ℕ) → raw_in m.raws context.policy.id ≡ Some secret
     → (d : Context) → context_at m.nodes node ≡ Some d → file_key_of secret Names context.nonce ≡ node_key m.raws d (plain_kind (get m.nodes node))

@@ -24,7 +24,7 @@ use Rattle.key_ring.specs.Holding.{Holding, secret_of, HoldsClaimedSecrets}
 use Rattle.key_ring.specs.Modes.{Modes, mode_at}
 use Rattle.key_ring.specs.ModeUsers.{users_in}
 use Rattle.key_ring.specs.declared.mode_key.ModeKey.{ModeKey}
-use Rattle.inode_refs.specs.Cached.{Cache, key_at}
+use Rattle.inode_refs.specs.CacheMaps.{Cache, key_at}
 use Rattle.inode_refs.specs.Ciphers.{names_in}
 use Rattle.inode_refs.specs.declared.node_key.NodeKey.{NodeKey}
 use Rattle.plain_tree.specs.Nodes.{Name, Node, Body, Dir, File, Link}
@@ -35,17 +35,17 @@ use Rattle.disk_tree.specs.Entries.{number_under}
 use Rattle.mount_model.specs.PlainMount.{PlainMount, HandleList}
 use Rattle.mount_model.specs.OpenHandles.{has_handle}
 use Rattle.mount_model.specs.Sealed.{raw_for, node_key, node_start, sealed_name, texts}
-use Rattle.mount_model.specs.States.{is_keyed, is_keyed_under, shown, shown_under}
+use Rattle.mount_model.specs.States.{is_keyed, is_keyed_under, shown, visible_name_under}
 use Rattle.mount_model.specs.WellFormed.{IsWellFormed}
 use Rattle.mount_state.specs.Contexts.{context_on_disk, has_own, has_shared, uses_own, uses_mode}
 use Rattle.mount_state.specs.StoredKinds.{is_of_kind, same_kind, kind_on_disk as stored_kind}
 use Rattle.mount_state.specs.Discipline.{Forgets}
-use Rattle.mount_state.specs.Led.{led_to}
-use Rattle.mount_state.specs.NamesKey.{cached_key, drawn_key, key_from}
-use Rattle.mount_state.specs.NamesCipher.{own_names_key, used_mode_key, other_key, IsCipherUnder, LeadsByOther, led_under as led_by_cipher}
+use Rattle.mount_state.specs.Resolution.{resolved_node}
+use Rattle.mount_state.specs.NamesKey.{cached_key, derived_file_key, key_from}
+use Rattle.mount_state.specs.NamesCipher.{own_names_key, used_mode_key, other_key, IsCipherUnder, ResolvesByOtherKey, resolved_under as led_by_cipher}
 use Rattle.mount_state.specs.Stored.{stored_node, stored_form}
-use Rattle.mount_state.specs.StandsFor.{TreeStands, KeysStand}
-use Rattle.mount_state.specs.CachedKeys.{CachesStand, plain_kind}
+use Rattle.mount_state.specs.Represents.{RepresentsTree, RepresentsKeys}
+use Rattle.mount_state.specs.CachedKeys.{RepresentsCaches, plain_kind}
 use Rattle.mount_state.proofs.LedLemmas.{decided, led_by, name_of_entry}
 use Rattle.mount_state.proofs.StandLemmas.{context_is, id_sized}
 use Rattle.mount_state.proofs.UserLemmas.{some_from, users_from}
@@ -54,7 +54,7 @@ is_names : (raw : List ℕ) (c : Context) → is_of_kind Names (key_from c raw) 
 is_names raw c = elim c.policy.by_mode as (λ b. is_of_kind Names (cond b (mode_key_of raw Names) (file_key_of raw Names c.nonce)) ≡ true) [ true ↦ refl | false ↦ refl ]
 
 -- a derived key is one of names
-pub drawn_names : (ring : Holding) (c : Context) (key : FileKey) → drawn_key ring c ≡ Some key → is_of_kind Names key ≡ true
+pub drawn_names : (ring : Holding) (c : Context) (key : FileKey) → derived_file_key ring c ≡ Some key → is_of_kind Names key ≡ true
 drawn_names ring c key is = by (secret_of ring c.policy.id) is
   where
     same : (a b : FileKey) → Some a ≡ Some b → a ≡ b
@@ -88,7 +88,7 @@ stored_dir_kind m n (Some v) is = at v.named v.context v.body is
 
 module _ (m : PlainMount) (dir : ℕ) (c : Context) (here : context_at m.nodes dir ≡ Some c) where
   -- a cached key, and a derived one, is the key of the directory's names
-  pub cached_is : (cache : Cache) (modes : Modes) → CachesStand cache modes m → is_dir_at m.nodes dir ≡ true → (k : FileKey) → cached_key cache modes dir c ≡ Some k → k ≡ node_key m.raws c Names
+  pub cached_is : (cache : Cache) (modes : Modes) → RepresentsCaches cache modes m → is_dir_at m.nodes dir ≡ true → (k : FileKey) → cached_key cache modes dir c ≡ Some k → k ≡ node_key m.raws c Names
   cached_is cache modes stand is_dir k is = by_flag c.policy.by_mode refl is
     where
       some_same : (x y : FileKey) → Some x ≡ Some y → x ≡ y
@@ -109,7 +109,7 @@ module _ (m : PlainMount) (dir : ℕ) (c : Context) (here : context_at m.nodes d
           ∙ sym (ap (λ b. cond b (mode_key_of (raw_for m.raws c) Names) (file_key_of (raw_for m.raws c) Names c.nonce)) flag)
       by_flag false flag is = of_node (key_at cache dir) refl is
 
-  pub drawn_is : (ring : Holding) → KeysStand ring m → (k : FileKey) → drawn_key ring c ≡ Some k → k ≡ node_key m.raws c Names
+  pub drawn_is : (ring : Holding) → RepresentsKeys ring m → (k : FileKey) → derived_file_key ring c ≡ Some k → k ≡ node_key m.raws c Names
   drawn_is ring stand k is = of_secret (secret_of ring c.policy.id) refl is
     where
       some_same : (x y : FileKey) → Some x ≡ Some y → x ≡ y
@@ -122,7 +122,7 @@ module _ (m : PlainMount) (dir : ℕ) (c : Context) (here : context_at m.nodes d
           ∙ sym (ap (λ o. key_from c (unwrap_or o [])) (stand.secrets c.policy.id raw there))
 
   -- so is one that is cached for the directory with its cipher
-  pub own_is : (cache : Cache) (modes : Modes) → CachesStand cache modes m → plain_kind (get m.nodes dir) ≡ Names → (bytes : List ℕ) → own_names_key cache dir c ≡ Some bytes → key.Names bytes ≡ node_key m.raws c Names
+  pub own_is : (cache : Cache) (modes : Modes) → RepresentsCaches cache modes m → plain_kind (get m.nodes dir) ≡ Names → (bytes : List ℕ) → own_names_key cache dir c ≡ Some bytes → key.Names bytes ≡ node_key m.raws c Names
   own_is cache modes stand names bytes is = by_flag c.policy.by_mode is
     where
       some_bytes : (x y : List ℕ) → Some x ≡ Some y → x ≡ y
@@ -142,7 +142,7 @@ module _ (m : PlainMount) (dir : ℕ) (c : Context) (here : context_at m.nodes d
       by_flag false is = of_node (key_at cache dir) refl is
 
   -- and one that is held elsewhere
-  pub other_is : (ring : Holding) (cache : Cache) (modes : Modes) → KeysStand ring m → CachesStand cache modes m → is_dir_at m.nodes dir ≡ true → (k : FileKey) → other_key ring modes c ≡ Some k → k ≡ node_key m.raws c Names
+  pub other_is : (ring : Holding) (cache : Cache) (modes : Modes) → RepresentsKeys ring m → RepresentsCaches cache modes m → is_dir_at m.nodes dir ≡ true → (k : FileKey) → other_key ring modes c ≡ Some k → k ≡ node_key m.raws c Names
   other_is ring cache modes keys stand is_dir k is = by_used (used_mode_key modes c) refl is
     where
       some_same : (x y : FileKey) → Some x ≡ Some y → x ≡ y
@@ -153,12 +153,12 @@ module _ (m : PlainMount) (dir : ℕ) (c : Context) (here : context_at m.nodes d
           ap (λ b. cond b (option_map (λ mode. mode.key) (mode_at modes c.policy.id Names)) (option_map (λ kept. kept.key) (key_at cache dir))) flag ∙ is
       of_flag false flag x bad = let none : None ≡ Some x = bad in absurd (cc)
 
-      by_used : (o : Option FileKey) → used_mode_key modes c ≡ o → option_or o (drawn_key ring c) ≡ Some k → k ≡ node_key m.raws c Names
+      by_used : (o : Option FileKey) → used_mode_key modes c ≡ o → option_or o (derived_file_key ring c) ≡ Some k → k ≡ node_key m.raws c Names
       by_used None none is = drawn_is ring keys k is
       by_used (Some x) used is = sym (some_same x k is) ∙ cached_is cache modes stand is_dir x (of_flag c.policy.by_mode refl x used)
 
   -- so the cipher under it is that of the directory's names
-  module _ (ring : Holding) (cache : Cache) (modes : Modes) (keys : KeysStand ring m) (stand : CachesStand cache modes m) (is_dir : is_dir_at m.nodes dir ≡ true) where
+  module _ (ring : Holding) (cache : Cache) (modes : Modes) (keys : RepresentsKeys ring m) (stand : RepresentsCaches cache modes m) (is_dir : is_dir_at m.nodes dir ≡ true) where
     of_names : (k : FileKey) → other_key ring modes c ≡ Some k → is_of_kind Names k ≡ true
     of_names k is = ap (is_of_kind Names) (other_is ring cache modes keys stand is_dir k is) ∙ is_names_key m c
 
@@ -180,7 +180,7 @@ module _ (m : PlainMount) (dir : ℕ) (c : Context) (here : context_at m.nodes d
         by_case (Some k) is under = let bad : None ≡ Some (key_bytes k) = under (of_names k is) in absurd (cc)
 
   -- if the directory is keyed, the state has the key
-  module _ (disk : Disk) (next : ℕ) (well : IsWellFormed m) (tree : TreeStands disk next m) (is_dir : is_dir_at m.nodes dir ≡ true) where
+  module _ (disk : Disk) (next : ℕ) (well : IsWellFormed m) (tree : RepresentsTree disk next m) (is_dir : is_dir_at m.nodes dir ≡ true) where
     pub context_here : context_on_disk (get disk dir) ≡ Some (context_bytes c)
     context_here = context_is disk next m well tree dir ∙ ap (option_map context_bytes) here
 
@@ -206,7 +206,7 @@ module _ (m : PlainMount) (dir : ℕ) (c : Context) (here : context_at m.nodes d
         kind_here = ap stored_kind (tree.nodes dir) ∙ stored_dir_kind m dir (get m.nodes dir) is_dir
 
     pub some_key : (ring : Holding) (cache : Cache) (modes : Modes) (live : HandleList) → Forgets disk ring.claims cache modes live → HoldsClaimedSecrets ring → ring.claims ≡ m.claims → live ≡ m.handles
-        → is_keyed m dir ≡ true → cached_key cache modes dir c ≡ None → drawn_key ring c ≡ None → ⊥
+        → is_keyed m dir ≡ true → cached_key cache modes dir c ≡ None → derived_file_key ring c ≡ None → ⊥
     some_key ring cache modes live rule secrets claims handles keyed uncached undrawn =
         elim (or_cases (is_present m.claims c.policy.id) (has_handle m.handles dir) (sym (ap (is_keyed_under m dir) here) ∙ keyed)) [
           | inl present ↦ from_secret (secret_of ring c.policy.id) (secrets c.policy.id ∙ (ap (λ cs. is_present cs c.policy.id) claims ∙ present)) undrawn
@@ -236,7 +236,7 @@ module _ (m : PlainMount) (dir : ℕ) (c : Context) (here : context_at m.nodes d
     pub some_cipher : (ring : Holding) (cache : Cache) (modes : Modes) (live : HandleList) → Forgets disk ring.claims cache modes live → HoldsClaimedSecrets ring → ring.claims ≡ m.claims → live ≡ m.handles
         → is_keyed m dir ≡ true → own_names_key cache dir c ≡ None → other_key ring modes c ≡ None → ⊥
     some_cipher ring cache modes live rule secrets claims handles keyed no_own no_other =
-        let both = neither (used_mode_key modes c) (drawn_key ring c) no_other in
+        let both = neither (used_mode_key modes c) (derived_file_key ring c) no_other in
         some_key ring cache modes live rule secrets claims handles keyed (by_flag c.policy.by_mode refl no_own both.0) both.1
       where
         neither : (o p : Option FileKey) → option_or o p ≡ None → (o ≡ None) × (p ≡ None)
@@ -273,9 +273,9 @@ module _ (m : PlainMount) (dir : ℕ) (c : Context) (here : context_at m.nodes d
           (λ same. (bytes_eq-Decides name other).1 (distinct (key_bytes (node_key m.raws c Names)) (node_start dir c) name other c.policy.pad ranged name_bytes other_bytes name_plain other_plain same)))
 
       shown_plain : (name : Name) → shown m dir name ≡ name
-      shown_plain name = ap (shown_under m dir name) here ∙ ap (λ b. cond b name (texts m.raws dir c name)) keyed
+      shown_plain name = ap (visible_name_under m dir name) here ∙ ap (λ b. cond b name (texts m.raws dir c name)) keyed
 
-      pub keyed_led : (name : Name) → IsPlain name → AreBytes name → lookup (bytes_eq (stored_name (key_bytes (node_key m.raws c Names)) (node_start dir c) c.policy.pad name)) (stored_entries disk dir) ≡ led_to m dir name
+      pub keyed_led : (name : Name) → IsPlain name → AreBytes name → lookup (bytes_eq (stored_name (key_bytes (node_key m.raws c Names)) (node_start dir c) c.policy.pad name)) (stored_entries disk dir) ≡ resolved_node m dir name
       unfolding sealed_name
       keyed_led name plain bytes = led_by disk next m well tree dir name (bytes_eq (sealed_name m.raws dir c name)) (λ other there.
           let is = name_of_entry disk next m well tree dir other there in
@@ -284,9 +284,9 @@ module _ (m : PlainMount) (dir : ℕ) (c : Context) (here : context_at m.nodes d
           ∙ ap (bytes_eq name) (sym (shown_plain other))))
 
     -- what is found under the bytes of the directory's key
-    pub led_under : NamesStayDistinct → is_keyed m dir ≡ true → (bytes : List ℕ) (read : Context) → read ≡ c → bytes ≡ key_bytes (node_key m.raws c Names) → AreBytes bytes
-        → (name : Name) → IsPlain name → AreBytes name → (there : Option ℕ) → there ≡ number_under (stored_name bytes (node_start dir read) read.policy.pad name) (stored_entries disk dir) → there ≡ led_to m dir name
-    led_under distinct keyed bytes read read_is is ranged name plain name_bytes there leads =
+    pub resolved_under : NamesStayDistinct → is_keyed m dir ≡ true → (bytes : List ℕ) (read : Context) → read ≡ c → bytes ≡ key_bytes (node_key m.raws c Names) → AreBytes bytes
+        → (name : Name) → IsPlain name → AreBytes name → (there : Option ℕ) → there ≡ number_under (stored_name bytes (node_start dir read) read.policy.pad name) (stored_entries disk dir) → there ≡ resolved_node m dir name
+    resolved_under distinct keyed bytes read read_is is ranged name plain name_bytes there leads =
         leads
         ∙ ((λ i. number_under (stored_name (is i) (node_start dir (read_is i)) (read_is i).policy.pad name) (stored_entries disk dir))
         ∙ keyed_led distinct keyed (subst AreBytes is ranged) name plain name_bytes)
@@ -294,19 +294,19 @@ module _ (m : PlainMount) (dir : ℕ) (c : Context) (here : context_at m.nodes d
     -- so is what is found under a cipher that is made for this call alone, if none is cached
     pub led_by_other : NamesStayDistinct → is_keyed m dir ≡ true
         → (ring : Holding) (cache : Cache) (modes : Modes) (live : HandleList) → Forgets disk ring.claims cache modes live → HoldsClaimedSecrets ring
-        → KeysStand ring m → CachesStand cache modes m → live ≡ m.handles
+        → RepresentsKeys ring m → RepresentsCaches cache modes m → live ≡ m.handles
         → (read : Context) → read ≡ c → own_names_key cache dir read ≡ None
         → (node : StoredNode) → get disk dir ≡ Some node → (name : Name) → IsPlain name → AreBytes name
-        → (there : Option ℕ) → LeadsByOther ring modes dir read name node.body there → there ≡ led_to m dir name
+        → (there : Option ℕ) → ResolvesByOtherKey ring modes dir read name node.body there → there ≡ resolved_node m dir name
     led_by_other distinct keyed ring cache modes live rule secrets keys stand handles read read_is uncached node node_is name plain bytes there leads =
         by_case leads.0 leads.1.0 leads.1.1.0 leads.1.1.1
       where
-        by_case : (o : Option (List ℕ)) → IsCipherUnder (other_key ring modes read) o → IfSome o AreBytes → there ≡ led_by_cipher dir read name node.body o → there ≡ led_to m dir name
+        by_case : (o : Option (List ℕ)) → IsCipherUnder (other_key ring modes read) o → IfSome o AreBytes → there ≡ led_by_cipher dir read name node.body o → there ≡ resolved_node m dir name
         by_case None under ranged is =
             absurd (some_cipher ring cache modes live rule secrets keys.claims handles keyed
             (subst (λ (x : Context). own_names_key cache dir x ≡ None) read_is uncached)
             (no_other ring cache modes keys stand is_dir (subst (λ (x : Context). IsCipherUnder (other_key ring modes x) None) read_is under)))
         by_case (Some key) under ranged is =
-            led_under distinct keyed key read read_is
+            resolved_under distinct keyed key read read_is
             (other_bytes ring cache modes keys stand is_dir key (subst (λ (x : Context). IsCipherUnder (other_key ring modes x) (Some key)) read_is under)) ranged name plain bytes there
             (is ∙ ap (λ (o : Option StoredNode). number_under (stored_name key (node_start dir read) read.policy.pad name) (entries_in o)) (sym node_is))

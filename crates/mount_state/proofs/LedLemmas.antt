@@ -17,12 +17,12 @@ use Rattle.plain_tree.proofs.StoredLemmas.{searches_agree}
 use Rattle.disk_tree.specs.DiskTree.{Disk, entries_in, children as stored_entries}
 use Rattle.mount_model.specs.PlainMount.{PlainMount, Raws}
 use Rattle.mount_model.specs.Sealed.{node_key, node_start, sealed_name, texts}
-use Rattle.mount_model.specs.States.{is_keyed, is_keyed_under, shown, shown_under}
+use Rattle.mount_model.specs.States.{is_keyed, is_keyed_under, shown, visible_name_under}
 use Rattle.mount_model.specs.WellFormed.{IsWellFormed}
 use Rattle.mount_model.specs.SoundNodes.{IsName}
-use Rattle.mount_state.specs.Led.{led_to, is_stored, is_text_of}
+use Rattle.mount_state.specs.Resolution.{resolved_node, is_stored, is_text_of}
 use Rattle.mount_state.specs.Stored.{stored_form, stored_node}
-use Rattle.mount_state.specs.StandsFor.{TreeStands}
+use Rattle.mount_state.specs.Represents.{RepresentsTree}
 
 -- ---- texts
 
@@ -60,14 +60,14 @@ some_value : {X : Type 0} (o : Option X) → is_some o ≡ true → (x : X) × (
 some_value None bad = absurd (cc)
 some_value (Some x) there = (x, refl)
 
-module _ (disk : Disk) (next : ℕ) (m : PlainMount) (well : IsWellFormed m) (tree : TreeStands disk next m) (dir : ℕ) where
+module _ (disk : Disk) (next : ℕ) (m : PlainMount) (well : IsWellFormed m) (tree : RepresentsTree disk next m) (dir : ℕ) where
   entries_are : stored_entries disk dir ≡ stored_children (stored_form m.raws dir (context_at m.nodes dir)) (children m.nodes dir)
   entries_are = ap entries_in (tree.nodes dir) ∙ entries_stored m.raws dir (get m.nodes dir)
 
   -- a test of stored names that agrees with the visible names finds what the part resolves to
   pub led_by : (part : Name) (test : List ℕ → Bool)
       → ((name : Name) → IsNameOf (children m.nodes dir) name → test (stored_form m.raws dir (context_at m.nodes dir) name) ≡ bytes_eq part (shown m dir name))
-      → lookup test (stored_entries disk dir) ≡ led_to m dir part
+      → lookup test (stored_entries disk dir) ≡ resolved_node m dir part
   led_by part test agree =
       ap (lookup test) entries_are
       ∙ (searches_agree (stored_form m.raws dir (context_at m.nodes dir)) test (λ name. bytes_eq part (shown m dir name)) (children m.nodes dir) agree
@@ -79,10 +79,10 @@ module _ (disk : Disk) (next : ℕ) (m : PlainMount) (well : IsWellFormed m) (tr
       let leads = some_value (lookup (bytes_eq name) (children m.nodes dir)) there in
       well.nodes.names dir name leads.0 leads.1
 
-  pub plain_led : (part : Name) → context_at m.nodes dir ≡ None → lookup (bytes_eq part) (stored_entries disk dir) ≡ led_to m dir part
+  pub plain_led : (part : Name) → context_at m.nodes dir ≡ None → lookup (bytes_eq part) (stored_entries disk dir) ≡ resolved_node m dir part
   plain_led part none = led_by part (bytes_eq part) (λ name _.
       ap (λ o. bytes_eq part (stored_form m.raws dir o name)) none
-      ∙ sym (ap (λ o. bytes_eq part (shown_under m dir name o)) none))
+      ∙ sym (ap (λ o. bytes_eq part (visible_name_under m dir name o)) none))
 
   module _ (fits : StoredNamesFit) (c : Context) (here : context_at m.nodes dir ≡ Some c) (locked : is_keyed m dir ≡ false) where
     size_of_part : (name : Name) → IsNameOf (children m.nodes dir) name → IsPlain name
@@ -102,18 +102,18 @@ module _ (disk : Disk) (next : ℕ) (m : PlainMount) (well : IsWellFormed m) (tr
 
     shown_is : (name : Name) → shown m dir name ≡ nokey_text_of (sealed_name m.raws dir c name)
     shown_is name =
-        ap (shown_under m dir name) here
+        ap (visible_name_under m dir name) here
         ∙ (ap (λ b. cond b name (texts m.raws dir c name)) locked ∙ text_is name)
 
-    led_by_text : (text : Name) → lookup (is_text_of text) (stored_entries disk dir) ≡ led_to m dir text
+    led_by_text : (text : Name) → lookup (is_text_of text) (stored_entries disk dir) ≡ resolved_node m dir text
     led_by_text text = led_by text (is_text_of text) (λ name there.
         ap (λ o. is_text_of text (stored_form m.raws dir o name)) here
         ∙ (ap (λ b. b && bytes_eq text (nokey_text_of (sealed_name m.raws dir c name))) (stored_fits name there)
         ∙ ap (bytes_eq text) (sym (shown_is name))))
 
-  pub locked_led : StoredNamesFit → is_keyed m dir ≡ false → (text : Name) → lookup (is_text_of text) (stored_entries disk dir) ≡ led_to m dir text
+  pub locked_led : StoredNamesFit → is_keyed m dir ≡ false → (text : Name) → lookup (is_text_of text) (stored_entries disk dir) ≡ resolved_node m dir text
   locked_led fits locked text = by_case (context_at m.nodes dir) refl
     where
-      by_case : (o : Option Context) → context_at m.nodes dir ≡ o → lookup (is_text_of text) (stored_entries disk dir) ≡ led_to m dir text
+      by_case : (o : Option Context) → context_at m.nodes dir ≡ o → lookup (is_text_of text) (stored_entries disk dir) ≡ resolved_node m dir text
       by_case None none = absurd (true≢false (sym (ap (is_keyed_under m dir) none) ∙ locked))
       by_case (Some c) here = led_by_text fits c here locked text

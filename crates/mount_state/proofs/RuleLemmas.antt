@@ -14,7 +14,7 @@ use Rattle.key_ring.specs.Holding.{Holding, secret_of}
 use Rattle.key_ring.specs.Modes.{Modes, of_kind, mode_at}
 use Rattle.key_ring.specs.ModeUsers.{users_in, users_of, AreUsed, IsUsed}
 use Rattle.key_ring.specs.declared.mode_key.ModeKey.{ModeKey}
-use Rattle.inode_refs.specs.Cached.{Cache, key_at, pins_of}
+use Rattle.inode_refs.specs.CacheMaps.{Cache, key_at, pins_of}
 use Rattle.inode_refs.specs.Evictions.{is_unpinned, users_of as inode_users}
 use Rattle.inode_refs.specs.declared.node_key.NodeKey.{NodeKey}
 use Rattle.inode_refs.proofs.UserLemmas.{one_user}
@@ -27,7 +27,7 @@ use Rattle.mount_state.specs.Contexts.{context_on_disk, names_id, has_own, has_s
 use Rattle.mount_state.specs.StoredKinds.{kind_on_disk, same_kind}
 use Rattle.mount_state.specs.CachedNames.{NamesForget}
 use Rattle.mount_state.specs.Discipline.{Forgets}
-use Rattle.mount_state.specs.Held.{HoldsNothing, is_in_use, is_unlocked, is_unlocked_under}
+use Rattle.mount_state.specs.KeyUse.{HoldsNothing, is_in_use, is_unlocked, is_unlocked_under}
 use Rattle.mount_state.proofs.UserLemmas.{one_on, some_from, users_from, some_user}
 
 -- ---- contexts

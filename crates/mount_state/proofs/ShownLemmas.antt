@@ -4,11 +4,11 @@ use Rattle.std.specs.Map.{lookup_entry}
 use Rattle.std.proofs.lemmas.Bool.{cases_lt, true≢false, le-leb, lt-leb}
 use Rattle.std.proofs.lemmas.Slice.Eq.{bytes_eq-Decides}
 use Rattle.byte_words.specs.Bytes.{AreBytes}
-use Rattle.name_crypt.specs.declared.limits.TheConstants.{LEAST_STORED_BYTES, MOST_NAME_BYTES, MOST_SPELLED_BYTES}
-use Rattle.name_crypt.specs.NoKeyText.{nokey_text_of, shown_bytes, IsShownBy}
-use Rattle.name_crypt.proofs.TextLemmas.{shown_whole, length-shown_bytes}
+use Rattle.name_crypt.specs.declared.limits.TheConstants.{MIN_STORED_BYTES, MAX_NAME_BYTES, MAX_SPELLED_BYTES}
+use Rattle.name_crypt.specs.NoKeyText.{nokey_text_of, visible_bytes, HasVisibleBytes}
+use Rattle.name_crypt.proofs.TextLemmas.{shown_whole, length-visible_bytes}
 use Rattle.disk_tree.specs.Entries.{Entries, HaveByteNames, number_under}
-use Rattle.mount_state.specs.Led.{is_stored, is_text_of, is_shown_as}
+use Rattle.mount_state.specs.Resolution.{is_stored, is_text_of, has_visible_name}
 use Rattle.mount_state.proofs.LedLemmas.{decided}
 
 -- ---- searches
@@ -46,65 +46,65 @@ and_true true b is = (refl, is)
 and_true false b is = absurd (true≢false (sym is))
 
 module _ (text : List ℕ) (es : Entries) (ranged : HaveByteNames es) where
-  pub by_shown : (shown : List ℕ) → IsShownBy text (Some shown) → lookup_entry (is_shown_as shown) es ≡ lookup_entry (is_text_of text) es
-  by_shown shown is = same_search (is_shown_as shown) (is_text_of text) es ranged (λ stored bytes.
-      ap (λ b. is_stored stored && b) (decided (bytes_eq shown (shown_bytes stored)) text (nokey_text_of stored)
-      (λ same. (is stored bytes).1 (ap Some ((bytes_eq-Decides shown (shown_bytes stored)).0 same)))
-      (λ same. let both : Some shown ≡ Some (shown_bytes stored) = (is stored bytes).0 same in (bytes_eq-Decides shown (shown_bytes stored)).1 (cc both))))
+  pub by_shown : (shown : List ℕ) → HasVisibleBytes text (Some shown) → lookup_entry (has_visible_name shown) es ≡ lookup_entry (is_text_of text) es
+  by_shown shown is = same_search (has_visible_name shown) (is_text_of text) es ranged (λ stored bytes.
+      ap (λ b. is_stored stored && b) (decided (bytes_eq shown (visible_bytes stored)) text (nokey_text_of stored)
+      (λ same. (is stored bytes).1 (ap Some ((bytes_eq-Decides shown (visible_bytes stored)).0 same)))
+      (λ same. let both : Some shown ≡ Some (visible_bytes stored) = (is stored bytes).0 same in (bytes_eq-Decides shown (visible_bytes stored)).1 (cc both))))
 
-  pub by_none : IsShownBy text None → None ≡ lookup_entry (is_text_of text) es
+  pub by_none : HasVisibleBytes text None → None ≡ lookup_entry (is_text_of text) es
   by_none is = sym (same_search (is_text_of text) (λ stored. false) es ranged (λ stored bytes. is_false (is_text_of text stored) (never stored bytes)) ∙ none_found (λ stored. false) es (λ stored. refl))
     where
       never : (stored : List ℕ) → AreBytes stored → is_text_of text stored ≡ true → ⊥
       never stored bytes has =
           let text_is : text ≡ nokey_text_of stored = (bytes_eq-Decides text (nokey_text_of stored)).0 ((and_true (is_stored stored) (bytes_eq text (nokey_text_of stored)) has).1) in
-          let none : None ≡ Some (shown_bytes stored) = (is stored bytes).0 text_is in
+          let none : None ≡ Some (visible_bytes stored) = (is stored bytes).0 text_is in
           absurd (cc)
 
 -- ---- by a name that is spelled whole, and by less than a name
 
 module _ (shown : List ℕ) where
-  shown_true : (stored : List ℕ) → is_shown_as shown stored ≡ true → (is_stored stored ≡ true) × (shown ≡ shown_bytes stored)
+  shown_true : (stored : List ℕ) → has_visible_name shown stored ≡ true → (is_stored stored ≡ true) × (shown ≡ visible_bytes stored)
   shown_true stored is =
-      let both = and_true (is_stored stored) (bytes_eq shown (shown_bytes stored)) is in
-      (both.0, (bytes_eq-Decides shown (shown_bytes stored)).0 both.1)
+      let both = and_true (is_stored stored) (bytes_eq shown (visible_bytes stored)) is in
+      (both.0, (bytes_eq-Decides shown (visible_bytes stored)).0 both.1)
 
   -- what was found under the name that is spelled whole
-  pub by_whole : (es : Entries) → LEAST_STORED_BYTES ≤ length shown → length shown ≤ MOST_SPELLED_BYTES → (n : Option ℕ) → n ≡ number_under shown es
-      → option_map (λ (x : ℕ). (shown, x)) n ≡ lookup_entry (is_shown_as shown) es
+  pub by_whole : (es : Entries) → MIN_STORED_BYTES ≤ length shown → length shown ≤ MAX_SPELLED_BYTES → (n : Option ℕ) → n ≡ number_under shown es
+      → option_map (λ (x : ℕ). (shown, x)) n ≡ lookup_entry (has_visible_name shown) es
   by_whole es least most n is =
       ap (option_map (λ (x : ℕ). (shown, x))) is
       ∙ (sought shown es
-      ∙ sym (all_found (is_shown_as shown) (bytes_eq shown) es (λ stored. decided (is_shown_as shown stored) shown stored (to stored) (from stored))))
+      ∙ sym (all_found (has_visible_name shown) (bytes_eq shown) es (λ stored. decided (has_visible_name shown stored) shown stored (to stored) (from stored))))
     where
-      to : (stored : List ℕ) → is_shown_as shown stored ≡ true → shown ≡ stored
+      to : (stored : List ℕ) → has_visible_name shown stored ≡ true → shown ≡ stored
       to stored is =
           let same = (shown_true stored is).1 in
           elim (cases_lt 149 (length stored)) [
-            | inl many ↦ absurd (omega (arith, ap length same, length-shown_bytes stored many))
+            | inl many ↦ absurd (omega (arith, ap length same, length-visible_bytes stored many))
             | inr few ↦ same ∙ shown_whole stored few
           ]
 
-      from : (stored : List ℕ) → shown ≡ stored → is_shown_as shown stored ≡ true
-      from stored same = rw (← same, shown_whole shown most, le-leb LEAST_STORED_BYTES (length shown) least, le-leb (length shown) MOST_NAME_BYTES (omega (arith, most))) ((bytes_eq-Decides shown shown).1 refl)
+      from : (stored : List ℕ) → shown ≡ stored → has_visible_name shown stored ≡ true
+      from stored same = rw (← same, shown_whole shown most, le-leb MIN_STORED_BYTES (length shown) least, le-leb (length shown) MAX_NAME_BYTES (omega (arith, most))) ((bytes_eq-Decides shown shown).1 refl)
 
-  pub by_less : (es : Entries) → length shown < LEAST_STORED_BYTES → None ≡ lookup_entry (is_shown_as shown) es
-  by_less es less = sym (none_found (is_shown_as shown) es (λ stored. is_false (is_shown_as shown stored) (never stored)))
+  pub by_less : (es : Entries) → length shown < MIN_STORED_BYTES → None ≡ lookup_entry (has_visible_name shown) es
+  by_less es less = sym (none_found (has_visible_name shown) es (λ stored. is_false (has_visible_name shown stored) (never stored)))
     where
-      never : (stored : List ℕ) → is_shown_as shown stored ≡ true → ⊥
+      never : (stored : List ℕ) → has_visible_name shown stored ≡ true → ⊥
       never stored is =
           let both = shown_true stored is in
           elim (cases_lt 149 (length stored)) [
-            | inl many ↦ omega (arith, less, ap length both.1, length-shown_bytes stored many)
-            | inr few ↦ elim (cases_lt (length stored) LEAST_STORED_BYTES) [
-              | inl small ↦ true≢false (sym ((and_true _ _ both.0).0) ∙ lt-leb LEAST_STORED_BYTES (length stored) small)
+            | inl many ↦ omega (arith, less, ap length both.1, length-visible_bytes stored many)
+            | inr few ↦ elim (cases_lt (length stored) MIN_STORED_BYTES) [
+              | inl small ↦ true≢false (sym ((and_true _ _ both.0).0) ∙ lt-leb MIN_STORED_BYTES (length stored) small)
               | inr large ↦ omega (arith, less, large, ap length (both.1 ∙ shown_whole stored few))
             ]
           ]
 
   -- what a comparison with what a name spells means
-  pub name_tells : (stored : List ℕ) (b : Bool) → LEAST_STORED_BYTES ≤ length stored → length stored ≤ MOST_NAME_BYTES
-      → (b ≡ true → shown ≡ shown_bytes stored) → (shown ≡ shown_bytes stored → b ≡ true) → b ≡ is_shown_as shown stored
+  pub name_tells : (stored : List ℕ) (b : Bool) → MIN_STORED_BYTES ≤ length stored → length stored ≤ MAX_NAME_BYTES
+      → (b ≡ true → shown ≡ visible_bytes stored) → (shown ≡ visible_bytes stored → b ≡ true) → b ≡ has_visible_name shown stored
   name_tells stored b least most to from =
-      decided b shown (shown_bytes stored) to from
-      ∙ sym (λ i. (le-leb _ _ least i && le-leb _ _ most i) && bytes_eq shown (shown_bytes stored))
+      decided b shown (visible_bytes stored) to from
+      ∙ sym (λ i. (le-leb _ _ least i && le-leb _ _ most i) && bytes_eq shown (visible_bytes stored))

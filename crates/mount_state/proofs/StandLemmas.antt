@@ -17,9 +17,9 @@ use Rattle.mount_model.specs.States as plain
 use Rattle.mount_model.specs.WellFormed.{IsWellFormed}
 use Rattle.mount_model.specs.SoundNodes.{HasRaw}
 use Rattle.mount_state.specs.Contexts.{context_on_disk, names_id, names_key_on_disk}
-use Rattle.mount_state.specs.Held.{is_in_use, is_unlocked, is_unlocked_under}
+use Rattle.mount_state.specs.KeyUse.{is_in_use, is_unlocked, is_unlocked_under}
 use Rattle.mount_state.specs.Stored.{stored_node}
-use Rattle.mount_state.specs.StandsFor.{TreeStands}
+use Rattle.mount_state.specs.Represents.{RepresentsTree}
 use Rattle.mount_state.proofs.UserLemmas.{some_alike}
 
 -- contexts are stored as their bytes
@@ -35,7 +35,7 @@ key_tells claims live n (Some context) id is =
     let same : id ≡ id_in context = (let both : Some id ≡ Some (id_in context) = is in cc) in
     ap (λ (k : KeyId). is_present claims k || has_handle live n) (sym same)
 
-module _ (disk : Disk) (next : ℕ) (m : PlainMount) (well : IsWellFormed m) (tree : TreeStands disk next m) where
+module _ (disk : Disk) (next : ℕ) (m : PlainMount) (well : IsWellFormed m) (tree : RepresentsTree disk next m) where
   pub context_is : (n : ℕ) → context_on_disk (get disk n) ≡ option_map context_bytes (context_at m.nodes n)
   context_is n = ap context_on_disk (tree.nodes n) ∙ context_stored m.raws n (get m.nodes n)
 

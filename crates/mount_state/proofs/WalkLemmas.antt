@@ -4,14 +4,14 @@ use Rattle.std.specs.List.{slice_get}
 use Rattle.std.specs.Option.{unwrap_or}
 use Rattle.std.proofs.Math.Numerals.{add-one}
 use Rattle.std.proofs.lemmas.Option.{unwrap_or-slice_get}
-use Rattle.inode_refs.specs.Cached.{Cache}
+use Rattle.inode_refs.specs.CacheMaps.{Cache}
 use Rattle.plain_tree.specs.Nodes.{Name}
 use Rattle.mount_model.specs.declared.reply.Refusal.{Refusal}
 use Rattle.mount_model.specs.PlainMount.{PlainMount}
 use Rattle.mount_state.specs.declared.state.MountState.{MountState}
 use Rattle.mount_state.specs.SameBut.{IsSame}
 use Rattle.mount_state.specs.SameButCaches.{SameButCaches}
-use Rattle.mount_model.specs.Walk.{PathParts, Walked, looked_in, stepped, walked_on, walked_from, walked}
+use Rattle.mount_model.specs.Walk.{PathParts, WalkResult, looked_in, walk_step, walked_on, walked_from, walk_path}
 use Rattle.mount_model.specs.EntryPaths.{parent, parent_parts, last_part}
 
 same_part : (a b : Name) → Some a ≡ Some b → a ≡ b
@@ -25,20 +25,20 @@ at_part (p ∷ ps) (suc n) zero part there below = ap (λ x. x ∷ take n ps) (s
 at_part (p ∷ ps) (suc n) (suc i) part there below = at_part ps n i part there (omega arith)
 
 module _ (m : PlainMount) (path : PathParts) (count i node : ℕ) (part : Name) (there : Some part ≡ slice_get path i) (below : i < count) where
-  goes_on : walked_from m node (drop i (take count path)) ≡ walked_on (λ x. walked_from m x (drop (suc i) (take count path))) (stepped m node part)
+  goes_on : walked_from m node (drop i (take count path)) ≡ walked_on (λ x. walked_from m x (drop (suc i) (take count path))) (walk_step m node part)
   goes_on = ap (walked_from m node) (at_part path count i part there below)
 
-  pub one_more : {w : Walked} → (next : ℕ) → Ok next ≡ stepped m node part → walked_from m node (drop i (take count path)) ≡ w → walked_from m next (drop (i + 1) (take count path)) ≡ w
+  pub one_more : {w : WalkResult} → (next : ℕ) → Ok next ≡ walk_step m node part → walked_from m node (drop i (take count path)) ≡ w → walked_from m next (drop (i + 1) (take count path)) ≡ w
   one_more next step on =
       ap (λ k. walked_from m next (drop k (take count path))) (add-one i)
       ∙ ap (walked_on (λ x. walked_from m x (drop (suc i) (take count path)))) step
       ∙ sym goes_on ∙ on
 
-  pub stopped : {w : Walked} → (refusal : Refusal) → Err refusal ≡ stepped m node part → walked_from m node (drop i (take count path)) ≡ w → Err refusal ≡ w
+  pub stopped : {w : WalkResult} → (refusal : Refusal) → Err refusal ≡ walk_step m node part → walked_from m node (drop i (take count path)) ≡ w → Err refusal ≡ w
   stopped refusal step on = ap (walked_on (λ x. walked_from m x (drop (suc i) (take count path)))) step ∙ sym goes_on ∙ on
 
 -- the last part is looked up in the directory that the others resolve to
-pub parent_at : (m : PlainMount) (path : PathParts) (d : ℕ) → Ok d ≡ walked m (parent_parts path) → (part : Name) → part ≡ unwrap_or (slice_get path (length path - 1)) []
+pub parent_at : (m : PlainMount) (path : PathParts) (d : ℕ) → Ok d ≡ walk_path m (parent_parts path) → (part : Name) → part ≡ unwrap_or (slice_get path (length path - 1)) []
     → looked_in m d part ≡ parent m path
 parent_at m path d leads part is =
     ap (looked_in m d) (is ∙ unwrap_or-slice_get path (length path - 1) [])

@@ -10,7 +10,7 @@ use Rattle.fsc_keys.specs.declared.file_keys.KeyKind.TheVariants.{Contents, Name
 use Rattle.number_map.specs.Numbered.{get}
 use Rattle.key_ring.specs.Modes.{Modes, mode_at}
 use Rattle.key_ring.specs.declared.mode_key.ModeKey.{ModeKey}
-use Rattle.inode_refs.specs.Cached.{Cache, key_at}
+use Rattle.inode_refs.specs.CacheMaps.{Cache, key_at}
 use Rattle.inode_refs.specs.declared.node_key.NodeKey.{NodeKey}
 use Rattle.plain_tree.specs.Nodes.{Body, Dir, File, Link, Node}
 use Rattle.plain_tree.specs.NodesByNumber.{context_at}
@@ -27,7 +27,7 @@ abbrev pub plain_kind : Option Node → KeyKind
 plain_kind None = Names
 plain_kind (Some v) = plain_kind_of v.body
 
-pub record CachesStand (cache : Cache) (modes : Modes) (m : PlainMount) : Type 0 where
+pub record RepresentsCaches (cache : Cache) (modes : Modes) (m : PlainMount) : Type 0 where
   -- a cached file key is the key of its node
   pub file_keys : (node : ℕ) (key : NodeKey) (c : Context)
       → key_at cache node ≡ Some key → context_at m.nodes node ≡ Some c

@@ -2,7 +2,7 @@
 use Rattle.std.specs.Prelude.{◌≡◌, ℕ, Bool, true, false, Option, Some, None, IsSome, Contains, ◌⊎◌}
 use Rattle.number_map.specs.Numbered.{get}
 use Rattle.user_claims.specs.Claims.{ClaimSet}
-use Rattle.dentry_cache.specs.Names.{Pair, NameList, cached}
+use Rattle.dentry_cache.specs.Names.{Pair, NameList, cached_node}
 use Rattle.dentry_cache.specs.NameChanges.{one_more}
 use Rattle.plain_tree.specs.Nodes.{Name, Nodes}
 use Rattle.plain_tree.specs.NodesByNumber.{entry}
@@ -12,7 +12,7 @@ use Rattle.disk_tree.specs.declared.node.Body.{Body}
 use Rattle.disk_tree.specs.declared.node.Body.TheVariants.{Dir, File, Link}
 use Rattle.mount_model.specs.PlainMount.{HandleList}
 use Rattle.mount_state.specs.Contexts.{context_on_disk}
-use Rattle.mount_state.specs.Held.{is_unlocked}
+use Rattle.mount_state.specs.KeyUse.{is_unlocked}
 
 abbrev pub is_dir_body : Body → Bool
 is_dir_body (Dir entries) = true
@@ -37,19 +37,19 @@ pub record NamesForget (disk : Disk) (claims : ClaimSet) (names : NameList) (liv
 
 -- ---- what they are
 
-pub record NamesStand (names : NameList) (nodes : Nodes) : Type 0 where
+pub record RepresentsNames (names : NameList) (nodes : Nodes) : Type 0 where
   -- a cached name resolves as the directory's entry does
   pub entries : (pair : Pair) → Contains names.pairs pair → entry nodes pair.0.dir pair.0.name ≡ Some pair.1
 
 -- ---- what a look-up leaves
 
 -- the name of that node is cached, or there was no memory for it and that was counted
-abbrev pub IsKept : NameList → NameList → ℕ → Name → ℕ → Type 0
-IsKept old new dir name number =
-    (cached new dir name ≡ Some number) ⊎ (new.refused ≡ one_more old.refused)
+abbrev pub IsCachedOrCounted : NameList → NameList → ℕ → Name → ℕ → Type 0
+IsCachedOrCounted old new dir name number =
+    (cached_node new dir name ≡ Some number) ⊎ (new.refused ≡ one_more old.refused)
 
 -- so it is in a keyed directory with a policy
 abbrev pub FillsNames : Disk → ClaimSet → HandleList → NameList → NameList → ℕ → Name → ℕ → Type 0
 FillsNames disk claims live old new dir name number =
     IsSome (context_on_disk (get disk dir)) → is_unlocked disk claims live dir ≡ true
-    → IsKept old new dir name number
+    → IsCachedOrCounted old new dir name number

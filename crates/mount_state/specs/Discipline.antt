@@ -10,12 +10,12 @@ use Rattle.user_claims.specs.ClaimCounts.{is_present}
 use Rattle.key_ring.specs.Modes.{Modes, of_kind, mode_at}
 use Rattle.key_ring.specs.ModeUsers.{users_in}
 use Rattle.key_ring.specs.declared.mode_key.ModeKey.{ModeKey}
-use Rattle.inode_refs.specs.Cached.{Cache, key_at, pins_of}
+use Rattle.inode_refs.specs.CacheMaps.{Cache, key_at, pins_of}
 use Rattle.inode_refs.specs.declared.node_key.NodeKey.{NodeKey}
 use Rattle.disk_tree.specs.DiskTree.{Disk}
 use Rattle.mount_model.specs.PlainMount.{HandleList}
 use Rattle.mount_model.specs.OpenHandles.{has_handle}
-use Rattle.mount_model.specs.declared.limits.TheConstants.{MOST_HANDLES}
+use Rattle.mount_model.specs.declared.limits.TheConstants.{MAX_HANDLES}
 use Rattle.mount_state.specs.Handles.{handles_on, users}
 use Rattle.mount_state.specs.Contexts.{uses_own, uses_mode}
 use Rattle.mount_state.specs.StoredKinds.{kind_on_disk, is_of_kind}
@@ -51,7 +51,7 @@ pub record ModeKeysForget (disk : Disk) (modes : Modes) (live : HandleList) : Ty
 pub record PinsAreHandles (cache : Cache) (live : HandleList) : Type 0 where
   -- a node is pinned once for each handle on it
   pub pinned : (node : ℕ) → pins_of cache node ≡ handles_on live node
-  pub few : length live ≤ MOST_HANDLES
+  pub few : length live ≤ MAX_HANDLES
 
 -- ---- the whole
 

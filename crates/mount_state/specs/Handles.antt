@@ -2,16 +2,16 @@
 use Rattle.std.specs.Prelude.{◌≡◌, ℕ, ◌+◌, Bool, [], ◌∷◌, ◌++◌, length, nat_le, ◌||◌, ◌==◌, if◌then◌else◌}
 use Rattle.std.specs.List.{count_by}
 use Rattle.std.specs.FinMap as map
-use Rattle.number_map.specs.Numbered.{Numbered, insert}
+use Rattle.number_map.specs.Numbered.{NumberedValues, insert}
 use Rattle.mount_model.specs.PlainMount.{HandleList}
 use Rattle.mount_model.specs.OpenHandles.{opens_of, without_handle}
-use Rattle.mount_model.specs.declared.limits.TheConstants.{MOST_HANDLES, MOST_OPENS}
+use Rattle.mount_model.specs.declared.limits.TheConstants.{MAX_HANDLES, MAX_OPENS}
 
 pub record Handles : Type 0 where
   -- in the order of their opening
   pub live : HandleList
   -- how many handles each caller ever opened; no entry means none
-  pub opened : Numbered ℕ
+  pub opened : NumberedValues ℕ
 
 abbrev pub no_handles : Handles
 no_handles = record { live = []; opened = map.empty }
@@ -28,10 +28,10 @@ with_handle handles caller node = record {
 abbrev pub without : Handles → ℕ → ℕ → Handles
 without handles caller number = record handles { live = without_handle caller number handles.live }
 
--- MOST_HANDLES handles are open, or the caller opened MOST_OPENS
+-- MAX_HANDLES handles are open, or the caller opened MAX_OPENS
 abbrev pub is_full : Handles → ℕ → Bool
 is_full handles caller =
-    nat_le MOST_HANDLES (length handles.live) || nat_le MOST_OPENS (opens_of handles.opened caller)
+    nat_le MAX_HANDLES (length handles.live) || nat_le MAX_OPENS (opens_of handles.opened caller)
 
 -- how many handles are on nodes that pass the test, and on this node
 abbrev pub users : (ℕ → Bool) → HandleList → ℕ

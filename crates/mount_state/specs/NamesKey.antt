@@ -8,7 +8,7 @@ use Rattle.fsc_keys.specs.declared.file_keys.FileKey.{FileKey}
 use Rattle.number_map.specs.Numbered.{get}
 use Rattle.key_ring.specs.Holding.{Holding, secret_of}
 use Rattle.key_ring.specs.Modes.{Modes, mode_at}
-use Rattle.inode_refs.specs.Cached.{Cache, key_at}
+use Rattle.inode_refs.specs.CacheMaps.{Cache, key_at}
 use Rattle.disk_tree.specs.DiskTree.{Disk}
 use Rattle.mount_state.specs.Contexts.{context_on_disk}
 
@@ -22,8 +22,8 @@ cached_key cache modes dir c =
 abbrev pub key_from : Context → List ℕ → FileKey
 key_from c raw = if c.policy.by_mode then mode_key_of raw Names else file_key_of raw Names c.nonce
 
-abbrev pub drawn_key : Holding → Context → Option FileKey
-drawn_key ring c = option_map (key_from c) (secret_of ring c.policy.id)
+abbrev pub derived_file_key : Holding → Context → Option FileKey
+derived_file_key ring c = option_map (key_from c) (secret_of ring c.policy.id)
 
 -- if the stored context is one of an identifier of 16 bytes, it is this one
 abbrev pub IsContextIn : Option (List ℕ) → Option Context → Type 0

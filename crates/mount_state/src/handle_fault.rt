@@ -9,7 +9,7 @@ use thiserror::Error;
 /// Why a handle wasn't opened. Whichever it is, all handles are as before.
 #[derive(Clone, Copy, Debug, PartialEq, Eq, Error)]
 pub enum HandleFault {
-    /// `MOST_HANDLES` handles are open, or the caller opened `MOST_OPENS`.
+    /// `MAX_HANDLES` handles are open, or the caller opened `MAX_OPENS`.
     #[error("too many handles")]
     NoSpace,
     /// There was no memory for it.

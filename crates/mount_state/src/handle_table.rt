@@ -7,7 +7,7 @@ ghost use Rattle.mount_state.specs.Handles.{no_handles, with_handle, without, is
 use super::HandleFault;
 use key_counts as counts;
 use mount_model::Handle;
-use mount_model::limits::{MOST_HANDLES, MOST_OPENS};
+use mount_model::limits::{MAX_HANDLES, MAX_OPENS};
 use std::alloc::{AllocError, Global};
 use std::collections::BTreeMap;
 use std::marker::Model;
@@ -40,13 +40,13 @@ impl Model for HandleTable {
     ghost use Rattle.std.specs.FinMap.{code};
     ghost use Rattle.mount_model.specs.contracts.handle.Handle as handle;
     ghost use Rattle.mount_model.specs.PlainMount.{HandleList};
-    ghost use Rattle.number_map.specs.Numbered.{Numbered};
+    ghost use Rattle.number_map.specs.Numbered.{NumberedValues};
     ghost use Rattle.mount_state.specs.Handles.{Handles};
     ghost use Rattle.mount_state.specs.KeptHandles.{opened_in, IsIndexed};
 
     ghost Value = { Handles };
 
-    ghost coded = { code_by (HandleList × Numbered ℕ)
+    ghost coded = { code_by (HandleList × NumberedValues ℕ)
         (coded× (coded_list handle.the_row.coded) (code coded_ℕ coded_ℕ))
         (λ handles. (handles.live, handles.opened))
         (λ pair. record { live = pair.0; opened = pair.1 })
@@ -70,7 +70,7 @@ impl HandleTable {
     }
 
     /// Opens a handle of the caller on the node. Returns its number: how many the caller opened before.
-    /// `NoSpace` exactly when `MOST_HANDLES` are open or the caller opened `MOST_OPENS`. After a refusal
+    /// `NoSpace` exactly when `MAX_HANDLES` are open or the caller opened `MAX_OPENS`. After a refusal
     /// all handles and counts are as before.
     pub fn open(&mut self, caller: u32, node: u32) -> Result<u32, HandleFault>
         ensures number { IfOk result (λ number. number ≡ opens_of self.old.opened caller) }
@@ -89,12 +89,12 @@ impl HandleTable {
         }
     }
 
-    /// Whether no further handle of the caller may be opened: `MOST_HANDLES` are open, or the caller
-    /// opened `MOST_OPENS`.
+    /// Whether no further handle of the caller may be opened: `MAX_HANDLES` are open, or the caller
+    /// opened `MAX_OPENS`.
     pub fn is_full(&self, caller: u32) -> bool
         ensures { result ≡ is_full self.now caller }
     {
-        self.live.len() >= MOST_HANDLES || self.opens(caller) as usize >= MOST_OPENS
+        self.live.len() >= MAX_HANDLES || self.opens(caller) as usize >= MAX_OPENS
     }
 
     // How many handles the caller ever opened.

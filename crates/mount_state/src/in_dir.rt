@@ -4,13 +4,14 @@ ghost use Rattle.std.specs.Prelude.{◌≡◌, ◌≤◌, length, option_map, If
 ghost use Rattle.std.specs.Map.{lookup, lookup_entry};
 ghost use Rattle.disk_tree.specs.DiskTree.{children};
 ghost use Rattle.disk_tree.specs.Entries.{number_under};
-ghost use Rattle.mount_state.specs.Led.{is_shown_as, is_text_of, LeadsPlain, LeadsLocked};
-ghost use Rattle.name_crypt.specs.declared.limits.TheConstants.{MOST_NAME_BYTES};
+ghost use Rattle.mount_state.specs.Resolution.{has_visible_name, is_text_of, ResolvesPlain, ResolvesLocked};
+ghost use Rattle.name_crypt.specs.declared.limits.TheConstants.{MAX_NAME_BYTES};
 
 use super::MountState;
 use disk_tree::{Body, DirEntries, StoredNode};
 use name_crypt::{
-    LEAST_STORED_BYTES, MOST_NAME_BYTES, MOST_SPELLED_BYTES, is_shown_as, names_come_back, shown_by,
+    MAX_NAME_BYTES, MAX_SPELLED_BYTES, MIN_STORED_BYTES, has_visible_name, names_come_back,
+    shown_by,
 };
 
 impl MountState {
@@ -19,7 +20,7 @@ impl MountState {
     /// hash.
     pub fn entry_by_name(&self, dir: u32, name: &[u8]) -> Option<u32>
         ensures value { result ≡ number_under name.now (children self.now.disk dir) }
-        ensures stands { LeadsPlain self.now dir name.now result }
+        ensures represents { ResolvesPlain self.now dir name.now result }
     {
         self.disk.entry(dir, name)
     }
@@ -31,7 +32,7 @@ impl MountState {
     #[inline(never)]
     pub fn entry_by_text(&self, dir: u32, text: &[u8]) -> Option<u32>
         ensures value { result ≡ lookup (is_text_of text.now) (children self.now.disk dir) }
-        ensures stands { LeadsLocked self.now dir text.now result }
+        ensures represents { ResolvesLocked self.now dir text.now result }
     {
         // That the stored form of each name has 16 to 255 bytes.
         names_come_back();
@@ -57,7 +58,7 @@ fn find_text(entries: &DirEntries, text: &[u8]) -> Option<u32>
     let Some(shown) = shown_by(text) else {
         return None;
     };
-    match entry_shown_as(entries, shown.bytes()) {
+    match entry_of_visible_name(entries, shown.bytes()) {
         Some((_name, number)) => Some(number),
         None => None,
     }
@@ -65,15 +66,18 @@ fn find_text(entries: &DirEntries, text: &[u8]) -> Option<u32>
 
 /// Returns the first entry whose stored name is spelled as `shown`, with that name. A name that is spelled
 /// whole is looked up, by hash. Only what is spelled of a longer name is compared with each entry.
-pub fn entry_shown_as<'a>(entries: &'a DirEntries, shown: &'a [u8]) -> Option<(&'a [u8], u32)>
+pub fn entry_of_visible_name<'a>(
+    entries: &'a DirEntries,
+    shown: &'a [u8],
+) -> Option<(&'a [u8], u32)>
     ensures found { option_map (λ e. (e.0.now, e.1)) result
-        ≡ lookup_entry (is_shown_as shown.now) entries.now }
-    ensures short { IfSome result (λ e. length e.0.now ≤ MOST_NAME_BYTES) }
+        ≡ lookup_entry (has_visible_name shown.now) entries.now }
+    ensures short { IfSome result (λ e. length e.0.now ≤ MAX_NAME_BYTES) }
 {
-    if shown.len() > MOST_SPELLED_BYTES {
+    if shown.len() > MAX_SPELLED_BYTES {
         return long_entry(entries, shown);
     }
-    if shown.len() < LEAST_STORED_BYTES {
+    if shown.len() < MIN_STORED_BYTES {
         return None;
     }
     match entries.find(shown) {
@@ -85,8 +89,8 @@ pub fn entry_shown_as<'a>(entries: &'a DirEntries, shown: &'a [u8]) -> Option<(&
 // The same by a search from the first entry on.
 fn long_entry<'a>(entries: &'a DirEntries, shown: &[u8]) -> Option<(&'a [u8], u32)>
     ensures found { option_map (λ e. (e.0.now, e.1)) result
-        ≡ lookup_entry (is_shown_as shown.now) entries.now }
-    ensures short { IfSome result (λ e. length e.0.now ≤ MOST_NAME_BYTES) }
+        ≡ lookup_entry (has_visible_name shown.now) entries.now }
+    ensures short { IfSome result (λ e. length e.0.now ≤ MAX_NAME_BYTES) }
 {
     'each: for entry in entries.iter() {
         let stored = entry.0.as_slice();
@@ -99,11 +103,11 @@ fn long_entry<'a>(entries: &'a DirEntries, shown: &[u8]) -> Option<(&'a [u8], u3
 
 // Whether these bytes are a stored name that is spelled as `shown`.
 fn is_name_shown_as(stored: &[u8], shown: &[u8]) -> bool
-    ensures value { result ≡ is_shown_as shown.now stored.now }
-    ensures short { IsTrue result → length stored.now ≤ MOST_NAME_BYTES }
+    ensures value { result ≡ has_visible_name shown.now stored.now }
+    ensures short { IsTrue result → length stored.now ≤ MAX_NAME_BYTES }
 {
-    if stored.len() < LEAST_STORED_BYTES || stored.len() > MOST_NAME_BYTES {
+    if stored.len() < MIN_STORED_BYTES || stored.len() > MAX_NAME_BYTES {
         return false;
     }
-    is_shown_as(stored, shown)
+    has_visible_name(stored, shown)
 }

@@ -12,17 +12,17 @@ ghost use Rattle.name_crypt.specs.StoredName.{stored_name};
 ghost use Rattle.number_map.specs.Numbered as map;
 ghost use Rattle.mount_model.specs.Sealed.{node_start};
 ghost use Rattle.mount_state.specs.StoredKinds.{is_of_kind};
-ghost use Rattle.mount_state.specs.NamesCipher.{IsCipherUnder, LeadsByOther, other_key, own_names_key};
+ghost use Rattle.mount_state.specs.NamesCipher.{IsCipherUnder, ResolvesByOtherKey, other_key, own_names_key};
 ghost use Rattle.mount_state.specs.NamesCipher.{used_mode_key};
-ghost use Rattle.mount_state.specs.NamesKey.{drawn_key};
-ghost use Rattle.mount_state.specs.Led.{LeadsKeyed};
+ghost use Rattle.mount_state.specs.NamesKey.{derived_file_key};
+ghost use Rattle.mount_state.specs.Resolution.{ResolvesKeyed};
 
 use super::MountState;
 use crate::contexts::context_of;
 use byte_words::slice_is_bytes;
 use disk_tree::StoredNode;
 use fsc_keys::{FileKey, KeyKind};
-use name_crypt::{Aes256, MOST_NAME_BYTES, Plain, Steps, encrypt_into, name_iv, names_come_back};
+use name_crypt::{Aes256, MAX_NAME_BYTES, Plain, Steps, encrypt_into, name_iv, names_come_back};
 use policy_ctx::Context;
 use std::sync::ledger::Ledger;
 
@@ -36,7 +36,7 @@ impl MountState {
         name: &Plain,
         steps: &mut Steps<L>,
     ) -> Option<u32>
-        ensures stands { LeadsKeyed self.now dir name.now result }
+        ensures represents { ResolvesKeyed self.now dir name.now result }
         ensures ticks { steps.new ≤ steps.old + 1 }
     {
         let node = self.disk.node(dir)?;
@@ -53,7 +53,7 @@ impl MountState {
     ) -> Option<u32>
         requires there { map.get self.now.disk dir ≡ Some node.now }
         requires plain { IsPlain name.now }
-        ensures stands { LeadsKeyed self.now dir name.now result }
+        ensures represents { ResolvesKeyed self.now dir name.now result }
         ensures ticks { steps.new ≤ steps.old + 1 }
     {
         // That two names are stored alike only if they are the same.
@@ -63,13 +63,13 @@ impl MountState {
         if let Some(cipher) = self.own_cipher(dir, &context) {
             return entry_under(node, dir, &context, cipher, name, steps);
         }
-        self.entry_anew(dir, node, &context, name, steps)
+        self.refreshed_entry(dir, node, &context, name, steps)
     }
 
     // Returns the node of the name's stored form, by a cipher that is made for this call alone. Separate
     // from the path with a cached cipher, which so reserves no stack space for round keys.
     #[inline(never)]
-    fn entry_anew<L: Ledger>(
+    fn refreshed_entry<L: Ledger>(
         &self,
         dir: u32,
         node: &StoredNode,
@@ -78,7 +78,7 @@ impl MountState {
         steps: &mut Steps<L>,
     ) -> Option<u32>
         requires { IsPlain name.now }
-        ensures value { LeadsByOther self.now.ring self.now.modes dir context.now name.now
+        ensures value { ResolvesByOtherKey self.now.ring self.now.modes dir context.now name.now
             node.now.body result }
         ensures claimed { HoldsClaimedSecrets self.now.ring }
         ensures ticks { steps.new ≤ steps.old + 1 }
@@ -121,7 +121,7 @@ impl MountState {
             return;
         }
         let mut key = FileKey::zeros(KeyKind::Names);
-        if self.draw_key(context, &mut key) {
+        if self.derive_name_key(context, &mut key) {
             set_cipher(room, &key);
         } else {
             *room = None;
@@ -141,10 +141,10 @@ impl MountState {
 
     /// Derives the key of the names from the secret, over another one of names, and returns true. If no
     /// user has a claim, leaves that one as it was, and returns false.
-    pub fn draw_key(&self, context: &Context, key: &mut FileKey) -> bool
+    pub fn derive_name_key(&self, context: &Context, key: &mut FileKey) -> bool
         requires { key_kind key.old ≡ Names }
-        ensures drawn { result ≡ true → drawn_key self.now.ring context.now ≡ Some key.new }
-        ensures none { result ≡ false → drawn_key self.now.ring context.now ≡ None }
+        ensures drawn { result ≡ true → derived_file_key self.now.ring context.now ≡ Some key.new }
+        ensures none { result ≡ false → derived_file_key self.now.ring context.now ≡ None }
         ensures kept { result ≡ false → key.new ≡ key.old }
     {
         match self.ring.secret_of(&context.policy.id) {
@@ -193,7 +193,7 @@ fn entry_under<L: Ledger>(
     ensures ticks { steps.new ≡ steps.old + 1 }
 {
     let iv = name_iv(start_of(dir, context));
-    let mut text = [0; MOST_NAME_BYTES];
+    let mut text = [0; MAX_NAME_BYTES];
     let len = encrypt_into(cipher, iv, context.policy.pad, name, &mut text, steps);
     node.body.find(&text[..len])
 }

@@ -2,14 +2,14 @@
 //! open handles, in a type that ensures what must be forgotten.
 #![tactic(auto)]
 
+mod caching;
 mod contexts;
 mod handle_fault;
 mod handle_table;
 mod in_dir;
-mod keeps;
+mod key_presence;
 mod keyed;
 mod laws;
-mod looks;
 mod names;
 mod state;
 mod walk;
@@ -17,9 +17,9 @@ mod walk;
 pub use contexts::context_of;
 pub use handle_fault::HandleFault;
 pub use handle_table::HandleTable;
-pub use in_dir::entry_shown_as;
+pub use in_dir::entry_of_visible_name;
 pub use keyed::start_of;
 pub use laws::a_state_is_its_parts;
 pub use mount_model::{Handle, KeyId, KeyState, Path, Refusal};
 pub use state::MountState;
-pub use walk::{entry_of, last_bytes, walked_node, walked_parent, walked_parent_past};
+pub use walk::{entry_of, last_bytes, walk_parent_past, walked_node, walked_parent};

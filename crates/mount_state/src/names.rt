@@ -3,24 +3,24 @@
 
 ghost use Rattle.std.specs.Prelude.{◌≡◌, ◌+◌, ◌≤◌, true, false, None, length, IfSome, IsSome};
 ghost use Rattle.number_map.specs.Numbered as map;
-ghost use Rattle.dentry_cache.specs.Names.{cached};
+ghost use Rattle.dentry_cache.specs.Names.{cached_node};
 ghost use Rattle.disk_tree.specs.DiskTree.{IsDirAt};
 ghost use Rattle.mount_state.specs.CachedNames.{FillsNames};
 ghost use Rattle.mount_state.specs.Contexts.{context_on_disk};
-ghost use Rattle.mount_state.specs.Held.{is_unlocked};
-ghost use Rattle.mount_state.specs.Led.{Leads};
+ghost use Rattle.mount_state.specs.KeyUse.{is_unlocked};
+ghost use Rattle.mount_state.specs.Resolution.{Resolves};
 ghost use Rattle.mount_state.specs.SameButCaches.{SameButCaches, StaysFor};
 
-use crate::keeps::keep_key;
+use crate::caching::cache_key;
 use crate::state::MountState;
-use name_crypt::{MOST_NAME_BYTES, Steps, is_plain};
+use name_crypt::{MAX_NAME_BYTES, Steps, is_plain};
 use std::alloc::Global;
 use std::sync::ledger::Ledger;
 
 // Returns the node that the part resolves to in a directory with a policy: the one that is cached for the
 // name, otherwise the one that is found. If the latter is found under the directory's key, it is then
 // cached, and so is that key if there is memory.
-pub(crate) fn number_kept<L: Ledger>(
+pub(crate) fn resolved_number<L: Ledger>(
     alloc: Global,
     state: &mut MountState,
     dir: u32,
@@ -28,12 +28,12 @@ pub(crate) fn number_kept<L: Ledger>(
     steps: &mut Steps<L>,
 ) -> Option<u32>
     requires dir { IsDirAt state.old.disk dir }
-    requires short { length part.now ≤ MOST_NAME_BYTES }
-    ensures found { Leads state.old dir part.now result }
-    ensures stands { StaysFor state.old state.new }
+    requires short { length part.now ≤ MAX_NAME_BYTES }
+    ensures found { Resolves state.old dir part.now result }
+    ensures represents { StaysFor state.old state.new }
     ensures same { SameButCaches state.old state.new }
     ensures ticks { steps.new ≤ steps.old + 1 }
-    ensures hit { IsSome (cached state.old.names dir part.now) → steps.new ≡ steps.old }
+    ensures hit { IsSome (cached_node state.old.names dir part.now) → steps.new ≡ steps.old }
     ensures locked { is_unlocked state.old.disk state.old.ring.claims state.old.handles.live dir ≡ false
         → steps.new ≡ steps.old }
     ensures filled { IfSome result (FillsNames state.old.disk state.old.ring.claims state.old.handles.live
@@ -42,7 +42,7 @@ pub(crate) fn number_kept<L: Ledger>(
     if let Some(number) = state.names.find(dir, part) {
         return Some(number);
     }
-    keep_key(alloc, state, dir);
+    cache_key(alloc, state, dir);
     let (found, by_key) = number_of(state, dir, part, steps);
     let number = found?;
     if !by_key {
@@ -61,7 +61,7 @@ pub(crate) fn number_of<L: Ledger>(
     part: &[u8],
     steps: &mut Steps<L>,
 ) -> (Option<u32>, bool)
-    ensures found { Leads state.now dir part.now result.0 }
+    ensures found { Resolves state.now dir part.now result.0 }
     ensures keyed { result.1 ≡ true
         → is_unlocked state.now.disk state.now.ring.claims state.now.handles.live dir ≡ true }
     ensures by_key { IsSome (context_on_disk (map.get state.now.disk dir)) → IsSome result.0

@@ -3,22 +3,22 @@
 ghost use Rattle.std.specs.Prelude.{◌≡◌, ◌+◌, ◌-◌, ◌≤◌, false, None, Ok, Err, take, length};
 ghost use Rattle.std.specs.Prelude.{IfErr, IfOk, IsSome, OnOk};
 ghost use Rattle.number_map.specs.Numbered as map;
-ghost use Rattle.dentry_cache.specs.Names.{cached};
+ghost use Rattle.dentry_cache.specs.Names.{cached_node};
 ghost use Rattle.disk_tree.specs.DiskTree.{IsDirAt};
 ghost use Rattle.mount_model.specs.PlainMount.{PlainMount};
-ghost use Rattle.mount_model.specs.Walk.{looked_in, stepped, walked};
+ghost use Rattle.mount_model.specs.Walk.{looked_in, walk_step, walk_path};
 ghost use Rattle.mount_model.specs.EntryPaths.{parent, last_part, is_at_or_above};
 ghost use Rattle.mount_state.specs.CachedNames.{FillsNames};
 ghost use Rattle.mount_state.specs.Contexts.{context_on_disk};
-ghost use Rattle.mount_state.specs.Held.{is_unlocked};
-ghost use Rattle.mount_state.specs.Passed.{passes, with_past};
+ghost use Rattle.mount_state.specs.KeyUse.{is_unlocked};
+ghost use Rattle.mount_state.specs.PassedNodes.{passes, with_past};
 ghost use Rattle.mount_state.specs.SameButCaches.{SameButCaches, StaysFor};
-ghost use Rattle.mount_state.specs.StandsFor.{StandsFor};
+ghost use Rattle.mount_state.specs.Represents.{Represents};
 
-use crate::keeps::keep_key;
-use crate::names::{number_kept, number_of};
+use crate::caching::cache_key;
+use crate::names::{number_of, resolved_number};
 use crate::state::MountState;
-use mount_model::limits::MOST_NAME_BYTES;
+use mount_model::limits::MAX_NAME_BYTES;
 use mount_model::{Path, Refusal};
 use name_crypt::Steps;
 use std::alloc::Global;
@@ -27,7 +27,7 @@ use std::sync::ledger::Ledger;
 /// Returns the node of the directory's entry whose visible name is the part: its name if the directory is
 /// keyed, otherwise its no-key text.
 ///
-/// NotDir if the number is no directory's, then NameTooLong for a part of more than `MOST_NAME_BYTES`
+/// NotDir if the number is no directory's, then NameTooLong for a part of more than `MAX_NAME_BYTES`
 /// bytes, then NotFound. At most one name is encrypted, and none if the name is cached or the key is
 /// absent. Nothing is decrypted. A name that resolves to a node in a keyed directory with a policy is
 /// cached from then on. If there is no memory for that, the failure is counted.
@@ -38,18 +38,18 @@ pub fn entry_of<L: Ledger>(
     part: &[u8],
     steps: &mut Steps<L>,
 ) -> Result<u32, Refusal>
-    ensures value { (m : PlainMount) → StandsFor state.old m → result ≡ stepped m dir part.now }
-    ensures stands { StaysFor state.old state.new }
+    ensures value { (m : PlainMount) → Represents state.old m → result ≡ walk_step m dir part.now }
+    ensures represents { StaysFor state.old state.new }
     ensures same { SameButCaches state.old state.new }
     ensures ticks { steps.new ≤ steps.old + 1 }
-    ensures hit { IsSome (cached state.old.names dir part.now) → steps.new ≡ steps.old }
+    ensures hit { IsSome (cached_node state.old.names dir part.now) → steps.new ≡ steps.old }
     ensures locked { is_unlocked state.old.disk state.old.ring.claims state.old.handles.live dir ≡ false
         → steps.new ≡ steps.old }
     ensures filled { IfOk result (FillsNames state.old.disk state.old.ring.claims state.old.handles.live
         state.old.names state.new.names dir part.now) }
 {
     match directory_for(state, dir, part) {
-        Ok(true) => number_kept(alloc, state, dir, part, steps).ok_or(Refusal::NotFound),
+        Ok(true) => resolved_number(alloc, state, dir, part, steps).ok_or(Refusal::NotFound),
         Ok(false) => number_of(state, dir, part, steps)
             .0
             .ok_or(Refusal::NotFound),
@@ -65,8 +65,8 @@ pub fn walked_node<L: Ledger>(
     path: &Path,
     steps: &mut Steps<L>,
 ) -> Result<u32, Refusal>
-    ensures value { (m : PlainMount) → StandsFor state.old m → result ≡ walked m path.now }
-    ensures stands { StaysFor state.old state.new }
+    ensures value { (m : PlainMount) → Represents state.old m → result ≡ walk_path m path.now }
+    ensures represents { StaysFor state.old state.new }
     ensures same { SameButCaches state.old state.new }
     ensures ticks { steps.new ≤ steps.old + length path.now }
 {
@@ -82,9 +82,9 @@ pub fn walked_parent<L: Ledger>(
     path: &Path,
     steps: &mut Steps<L>,
 ) -> Result<u32, Refusal>
-    ensures value { (m : PlainMount) → StandsFor state.old m → result ≡ parent m path.now }
-    ensures short { OnOk result (length (last_part path.now) ≤ MOST_NAME_BYTES) }
-    ensures stands { StaysFor state.old state.new }
+    ensures value { (m : PlainMount) → Represents state.old m → result ≡ parent m path.now }
+    ensures short { OnOk result (length (last_part path.now) ≤ MAX_NAME_BYTES) }
+    ensures represents { StaysFor state.old state.new }
     ensures same { SameButCaches state.old state.new }
     ensures ticks { steps.new ≤ steps.old + (length path.now - 1) }
 {
@@ -97,16 +97,16 @@ pub fn walked_parent<L: Ledger>(
 
 /// Returns the directory of the path's last part, refused as `walked_parent` is. Also returns whether this
 /// node is that directory or above it: whether the walk to it passes the node.
-pub fn walked_parent_past<L: Ledger>(
+pub fn walk_parent_past<L: Ledger>(
     alloc: Global,
     state: &mut MountState,
     path: &Path,
     node: u32,
     steps: &mut Steps<L>,
 ) -> Result<(u32, bool), Refusal>
-    ensures value { (m : PlainMount) → StandsFor state.old m
+    ensures value { (m : PlainMount) → Represents state.old m
         → result ≡ with_past (is_at_or_above m node path.now) (parent m path.now) }
-    ensures stands { StaysFor state.old state.new }
+    ensures represents { StaysFor state.old state.new }
     ensures same { SameButCaches state.old state.new }
     ensures ticks { steps.new ≤ steps.old + (length path.now - 1) }
 {
@@ -141,9 +141,9 @@ fn walked_past<L: Ledger>(
     steps: &mut Steps<L>,
 ) -> Result<(u32, bool), Refusal>
     requires { count ≤ length path.now }
-    ensures value { (m : PlainMount) → StandsFor state.old m
-        → result ≡ with_past (passes m 0 (take count path.now) node) (walked m (take count path.now)) }
-    ensures stands { StaysFor state.old state.new }
+    ensures value { (m : PlainMount) → Represents state.old m
+        → result ≡ with_past (passes m 0 (take count path.now) node) (walk_path m (take count path.now)) }
+    ensures represents { StaysFor state.old state.new }
     ensures same { SameButCaches state.old state.new }
     ensures ticks { steps.new ≤ steps.old + count }
 {
@@ -173,8 +173,8 @@ fn walked_parts<L: Ledger>(
     steps: &mut Steps<L>,
 ) -> Result<u32, Refusal>
     requires { count ≤ length path.now }
-    ensures value { (m : PlainMount) → StandsFor state.old m → result ≡ walked m (take count path.now) }
-    ensures stands { StaysFor state.old state.new }
+    ensures value { (m : PlainMount) → Represents state.old m → result ≡ walk_path m (take count path.now) }
+    ensures represents { StaysFor state.old state.new }
     ensures same { SameButCaches state.old state.new }
     ensures ticks { steps.new ≤ steps.old + count }
 {
@@ -191,7 +191,7 @@ fn walked_parts<L: Ledger>(
     Ok(node)
 }
 
-// Returns the directory, if the part may be looked up in it. Caches the key of its names as `keep_key`
+// Returns the directory, if the part may be looked up in it. Caches the key of its names as `cache_key`
 // does.
 fn directory_kept(
     alloc: Global,
@@ -199,15 +199,15 @@ fn directory_kept(
     dir: u32,
     part: &[u8],
 ) -> Result<u32, Refusal>
-    ensures value { (m : PlainMount) → StandsFor state.old m → result ≡ looked_in m dir part.now }
+    ensures value { (m : PlainMount) → Represents state.old m → result ≡ looked_in m dir part.now }
     ensures dir { OnOk result (IsDirAt state.old.disk dir) }
-    ensures short { OnOk result (length part.now ≤ MOST_NAME_BYTES) }
-    ensures stands { StaysFor state.old state.new }
+    ensures short { OnOk result (length part.now ≤ MAX_NAME_BYTES) }
+    ensures represents { StaysFor state.old state.new }
     ensures same { SameButCaches state.old state.new }
 {
     match directory_for(state, dir, part) {
         Ok(true) => {
-            keep_key(alloc, state, dir);
+            cache_key(alloc, state, dir);
             Ok(dir)
         }
         Ok(false) => Ok(dir),
@@ -218,11 +218,11 @@ fn directory_kept(
 // Returns whether the directory has a policy, if the part may be looked up in it.
 fn directory_for(state: &MountState, dir: u32, part: &[u8]) -> Result<bool, Refusal>
     ensures found { IfOk result (λ _.
-        (m : PlainMount) → StandsFor state.now m → looked_in m dir part.now ≡ Ok dir) }
-    ensures refused { IfErr result (λ refusal. (m : PlainMount) → StandsFor state.now m
+        (m : PlainMount) → Represents state.now m → looked_in m dir part.now ≡ Ok dir) }
+    ensures refused { IfErr result (λ refusal. (m : PlainMount) → Represents state.now m
         → looked_in m dir part.now ≡ Err refusal) }
     ensures dir { OnOk result (IsDirAt state.now.disk dir) }
-    ensures short { OnOk result (length part.now ≤ MOST_NAME_BYTES) }
+    ensures short { OnOk result (length part.now ≤ MAX_NAME_BYTES) }
     ensures plain { result ≡ Ok false → context_on_disk (map.get state.now.disk dir) ≡ None }
 {
     let Some(node) = state.disk.node(dir) else {
@@ -231,7 +231,7 @@ fn directory_for(state: &MountState, dir: u32, part: &[u8]) -> Result<bool, Refu
     if !node.body.is_dir() {
         return Err(Refusal::NotDir);
     }
-    if part.len() > MOST_NAME_BYTES {
+    if part.len() > MAX_NAME_BYTES {
         return Err(Refusal::NameTooLong);
     }
     Ok(node.context.is_some())

@@ -2,7 +2,7 @@
 
 use crate::encrypted_dir::{Ask, asked, cached, encrypted, found, keyed, name_of, renamed};
 use crate::on_a_mount::{Trial, try_on_a_mount};
-use crate::told::{is_done, is_refused, is_removed};
+use crate::reply_values::{is_done, is_refused, is_removed};
 use mount_keys::{drop_caches, remove_key};
 use mount_model::{KeyId, KeyState, Refusal};
 use mount_state::MountState;
@@ -46,7 +46,7 @@ pub(crate) enum Turn {
     /// The name isn't found by its path.
     NotFound(&'static [u8]),
     /// The name resolves to this node, or to none, once it is looked up.
-    Leads(&'static [u8], Option<u32>),
+    Resolves(&'static [u8], Option<u32>),
     /// The name is cached with this node, or isn't cached.
     Cached(&'static [u8], Option<u32>),
     /// All caches are dropped.
@@ -56,14 +56,14 @@ pub(crate) enum Turn {
 static LOOK_ONE_UP: [Turn; 11] = [
     Turn::Done(Ask::Create, b"f"),
     Turn::Cached(b"f", None),
-    Turn::Leads(b"f", Some(2)),
+    Turn::Resolves(b"f", Some(2)),
     Turn::Cached(b"f", Some(2)),
-    Turn::Leads(b"f", Some(2)),
+    Turn::Resolves(b"f", Some(2)),
     Turn::Dropped,
     Turn::Cached(b"f", None),
-    Turn::Leads(b"f", Some(2)),
+    Turn::Resolves(b"f", Some(2)),
     Turn::Cached(b"f", Some(2)),
-    Turn::Leads(b"f", Some(2)),
+    Turn::Resolves(b"f", Some(2)),
     Turn::Dropped,
 ];
 
@@ -71,22 +71,22 @@ static LOOK_ONE_UP: [Turn; 11] = [
 // looked up.
 static MOVE_AND_REMOVE: [Turn; 11] = [
     Turn::Done(Ask::Create, b"f"),
-    Turn::Leads(b"f", Some(2)),
+    Turn::Resolves(b"f", Some(2)),
     Turn::Renamed(b"f", b"g"),
     Turn::Cached(b"f", None),
     Turn::Cached(b"g", None),
     Turn::NotFound(b"f"),
-    Turn::Leads(b"g", Some(2)),
+    Turn::Resolves(b"g", Some(2)),
     Turn::Cached(b"g", Some(2)),
     Turn::Done(Ask::Unlink, b"g"),
     Turn::Cached(b"g", None),
-    Turn::Leads(b"g", None),
+    Turn::Resolves(b"g", None),
 ];
 
 // The same for a directory.
 static MAKE_AND_REMOVE: [Turn; 5] = [
     Turn::Done(Ask::Mkdir, b"d"),
-    Turn::Leads(b"d", Some(2)),
+    Turn::Resolves(b"d", Some(2)),
     Turn::Cached(b"d", Some(2)),
     Turn::Done(Ask::Rmdir, b"d"),
     Turn::Cached(b"d", None),
@@ -120,7 +120,7 @@ fn comes_so<L: Ledger, A: Abort>(
             let told = asked(rt, alloc, state, (Ask::Stat, name), steps);
             is_refused(told, Refusal::NotFound)
         }
-        Turn::Leads(name, node) => found(rt, alloc, state, name, steps) == node,
+        Turn::Resolves(name, node) => found(rt, alloc, state, name, steps) == node,
         Turn::Cached(name, node) => cached(state, name) == node,
         Turn::Dropped => is_done(drop_caches(state)),
     }

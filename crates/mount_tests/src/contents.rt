@@ -2,7 +2,7 @@
 ghost use Rattle.std.specs.Prelude.{◌≡◌, ◌%◌, ◌^◌};
 
 use crate::disk_steps::file;
-use file_disk::{ContentsKey, DiskTree, LentRead, Unit, begin_read, finish_read, write_file};
+use file_disk::{ContentsKey, DiskTree, PendingRead, Unit, begin_read, finish_read, write_file};
 use sha2::{Digest, Sha256};
 use std::alloc::{AllocError, Global};
 use std::process::Abort;
@@ -182,7 +182,7 @@ fn read<R: Abort>(
     assert!(rt; is_read(lent, wanted), "{len} bytes at {offset}");
 }
 
-fn is_read(lent: Option<LentRead>, wanted: Option<&[u8]>) -> bool {
+fn is_read(lent: Option<PendingRead>, wanted: Option<&[u8]>) -> bool {
     match (lent, wanted) {
         (Some(lent), Some(wanted)) => finish_read(lent).as_slice() == wanted,
         (None, None) => true,

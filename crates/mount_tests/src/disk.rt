@@ -17,12 +17,12 @@ static MAKE_MOVE_AND_DROP: [Step; 25] = [
     Step::Seen(Sight::IsNamed(2, true)),
     Step::Made(Change::Move((0, b"c"), (0, b"d"))),
     Step::Seen(Sight::Names(0, &[b"a", b"b", b"d"])),
-    Step::Seen(Sight::Leads((0, b"d"), Some(1))),
+    Step::Seen(Sight::Resolves((0, b"d"), Some(1))),
     Step::Seen(Sight::IsNamed(1, true)),
     Step::Made(Change::Move((0, b"a"), (3, b"a"))),
     Step::Seen(Sight::Names(0, &[b"b", b"d"])),
     Step::Seen(Sight::Names(3, &[b"a"])),
-    Step::Seen(Sight::Leads((3, b"a"), Some(2))),
+    Step::Seen(Sight::Resolves((3, b"a"), Some(2))),
     Step::Seen(Sight::IsNamed(2, true)),
     Step::Drop((0, b"b"), true),
     Step::Drop((0, b"b"), false),
@@ -53,14 +53,14 @@ const ANOTHER: &[u8] = b"another.\x15\x7c\x4a\x7f\xb9\x79\x37\x9e";
 
 static MAKE_TWO_OF_ONE_HASH: [Step; 9] = [
     Step::Made(Change::Put((0, ONE), 1)),
-    Step::Seen(Sight::Leads((0, ANOTHER), None)),
+    Step::Seen(Sight::Resolves((0, ANOTHER), None)),
     Step::Drop((0, ANOTHER), false),
     Step::Made(Change::Put((0, ANOTHER), 2)),
-    Step::Seen(Sight::Leads((0, ONE), Some(1))),
-    Step::Seen(Sight::Leads((0, ANOTHER), Some(2))),
+    Step::Seen(Sight::Resolves((0, ONE), Some(1))),
+    Step::Seen(Sight::Resolves((0, ANOTHER), Some(2))),
     Step::Drop((0, ONE), true),
-    Step::Seen(Sight::Leads((0, ONE), None)),
-    Step::Seen(Sight::Leads((0, ANOTHER), Some(2))),
+    Step::Seen(Sight::Resolves((0, ONE), None)),
+    Step::Seen(Sight::Resolves((0, ANOTHER), Some(2))),
 ];
 
 #[test]
@@ -80,7 +80,7 @@ static MAKE_TWO_AND_DROP_ONE: [Step; 11] = [
     Step::Seen(Sight::Gone(1)),
     Step::Seen(Sight::Blocks(0)),
     Step::Seen(Sight::Names(0, &[b"b"])),
-    Step::Seen(Sight::Leads((0, b"b"), Some(2))),
+    Step::Seen(Sight::Resolves((0, b"b"), Some(2))),
 ];
 
 #[test]

@@ -80,7 +80,7 @@ pub(crate) enum Sight {
     /// The directory has these names, in this order.
     Names(u32, &'static [&'static [u8]]),
     /// The name resolves to a node of this number, or to none.
-    Leads((u32, &'static [u8]), Option<u32>),
+    Resolves((u32, &'static [u8]), Option<u32>),
     /// Whether the node of this number has a name.
     IsNamed(u32, bool),
     /// There is no node of this number.
@@ -132,7 +132,7 @@ pub(crate) fn changed(
             Some(tree.add_node(number, file(alloc)))
         }
         Change::Named((at, name), number) if tree.is_dir(at) && tree.node(number).is_none() => {
-            Some(tree.add_named(alloc, at, name, number, file(alloc)))
+            Some(tree.add_node_and_entry(alloc, at, name, number, file(alloc)))
         }
         Change::Put((at, name), number) if tree.is_dir(at) => {
             Some(tree.put_entry(alloc, at, name, number))
@@ -151,7 +151,7 @@ pub(crate) fn changed(
 fn is_seen(tree: &DiskTree, sight: Sight) -> bool {
     match sight {
         Sight::Names(dir, names) => has_names(tree, dir, names),
-        Sight::Leads((dir, name), number) => tree.entry(dir, name) == number,
+        Sight::Resolves((dir, name), number) => tree.entry(dir, name) == number,
         Sight::IsNamed(number, named) => is_named(tree, number) == named,
         Sight::Gone(number) => tree.node(number).is_none(),
         Sight::Nodes(count) => tree.node_count() == count,
@@ -167,7 +167,7 @@ fn goes_so(tree: &mut DiskTree, alloc: Global, step: Step) -> bool {
         Step::Full(change) => changed(tree, alloc, change) == Some(Err(DiskFault::NoSpace)),
         Step::Seen(sight) => is_seen(tree, sight),
         Step::Drop((dir, name), was_there) => tree.drop_entry(dir, name) == was_there,
-        Step::DropNamed((dir, name), number) => tree.drop_named(dir, name) == number,
+        Step::DropNamed((dir, name), number) => tree.remove_entry_and_node(dir, name) == number,
         Step::Remove(number) => {
             tree.remove_node(number);
             true

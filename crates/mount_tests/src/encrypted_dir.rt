@@ -1,7 +1,7 @@
 //! An encrypted directory `/e`, and calls on its names. A mount is always passed by reference: a function
 //! that owns one drops it at each of its exits, and is expensive to prove.
 use crate::paths::{part, path_in, path_of};
-use crate::told::{is_done, key_added};
+use crate::reply_values::{id_of_added_key, is_done};
 use item_list::Bytes;
 use mount_keys::add_key;
 use mount_model::{KeyId, Part, Path, Reply};
@@ -26,7 +26,7 @@ const POLICY: [u8; 24] = [
 /// Adds the key of this directory.
 pub(crate) fn keyed<A: Abort>(rt: &A, alloc: Global, state: &mut MountState) -> KeyId {
     let raw = raw_key(alloc).expect(rt, "memory");
-    key_added(add_key(alloc, state, 0, &raw)).expect(rt, "a key")
+    id_of_added_key(add_key(alloc, state, 0, &raw)).expect(rt, "a key")
 }
 
 /// Adds a key, and makes `/e` under it.

@@ -1,7 +1,7 @@
 //! Handles, and the calls on open files.
 
 use crate::on_a_mount::{Trial, try_on_a_mount};
-use crate::told::{handle_opened, is_done, is_refused};
+use crate::reply_values::{is_done, is_refused, opened_handle};
 use mount_files::{close, open_node};
 use mount_model::{Path, Refusal};
 use mount_state::{HandleTable, KeyId, KeyState, MountState};
@@ -62,7 +62,7 @@ fn opens<L: Ledger>(
     path: &Path,
     steps: &mut Steps<L>,
 ) -> Option<u32> {
-    handle_opened(open_node(alloc, state, 7, path, steps))
+    opened_handle(open_node(alloc, state, 7, path, steps))
 }
 
 fn close_both<A: Abort>(rt: &A, state: &mut MountState) {

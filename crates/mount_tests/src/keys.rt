@@ -1,7 +1,7 @@
 //! Calls on keys.
 
 use crate::on_a_mount::{Trial, try_on_a_mount};
-use crate::told::{is_done, is_refused, is_removed, key_added};
+use crate::reply_values::{id_of_added_key, is_done, is_refused, is_removed};
 use mount_keys::{
     Bytes, KeyId, KeyState, MountState, Reply, add_key, drop_caches, key_status, remove_key,
     remove_key_all,
@@ -28,7 +28,7 @@ fn add_for<A: Abort>(rt: &A, alloc: Global, state: &mut MountState, uids: &[u32]
     let raw = raw_key(alloc).expect(rt, "memory");
     for uid in uids {
         let added = add_key(alloc, state, *uid, &raw);
-        assert!(rt; key_added(added) == Some(ID));
+        assert!(rt; id_of_added_key(added) == Some(ID));
     }
 }
 
@@ -75,8 +75,8 @@ fn a_raw_key_has_32_to_64_bytes(rt: HostRuntime) {
 
 pub(crate) fn add_each_size<A: Abort>(rt: &A, alloc: Global, state: &mut MountState) {
     assert!(rt; is_refused(added(rt, alloc, state, 31), Refusal::Inval));
-    assert!(rt; key_added(added(rt, alloc, state, 32)).is_some());
-    assert!(rt; key_added(added(rt, alloc, state, 64)).is_some());
+    assert!(rt; id_of_added_key(added(rt, alloc, state, 32)).is_some());
+    assert!(rt; id_of_added_key(added(rt, alloc, state, 64)).is_some());
     assert!(rt; is_refused(added(rt, alloc, state, 65), Refusal::Inval));
 }
 

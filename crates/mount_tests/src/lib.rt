@@ -30,4 +30,4 @@ mod paths;
 #[cfg(test)]
 mod records;
 #[cfg(test)]
-mod told;
+mod reply_values;

@@ -3,7 +3,7 @@
 use crate::encrypted_dir::looked_up;
 use crate::on_a_mount::{Trial, try_on_a_mount};
 use crate::paths::{part, path_in, path_of};
-use crate::told::{is_done, is_refused};
+use crate::reply_values::{is_done, is_refused};
 use mount_model::{NodeKind, Path, Refusal, Reply};
 use mount_names::{create, get_policy, mkdir, read_link, stat};
 use mount_state::MountState;

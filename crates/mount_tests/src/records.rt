@@ -1,7 +1,7 @@
 //! Records by their versions, and the calls on them.
 
 use crate::on_a_mount::{Trial, try_on_a_mount};
-use crate::told::{is_refused, version_stored};
+use crate::reply_values::{is_refused, stored_version};
 use meta_files::{MetaFiles, StoreFault};
 use mount_model::Refusal;
 use mount_records::{Bytes, MountState, Reply, meta_load, meta_store};
@@ -89,13 +89,13 @@ pub(crate) fn load_and_store<A: Abort>(rt: &A, alloc: Global, state: &mut MountS
 
 fn store_first<A: Abort>(rt: &A, alloc: Global, state: &mut MountState, name: &Bytes) {
     let first = stored(rt, alloc, state, (name, 0), &[0]);
-    assert!(rt; version_stored(first) == Some(1));
+    assert!(rt; stored_version(first) == Some(1));
     assert!(rt; is_the_first(meta_load(alloc, state, name)));
 }
 
 fn store_again<A: Abort>(rt: &A, alloc: Global, state: &mut MountState, name: &Bytes) {
     let second = stored(rt, alloc, state, (name, 1), &[1]);
-    assert!(rt; version_stored(second) == Some(2));
+    assert!(rt; stored_version(second) == Some(2));
     let stale = stored(rt, alloc, state, (name, 1), &[0]);
     assert!(rt; is_refused(stale, Refusal::Changed { version: 2 }));
     let too_big = stored(rt, alloc, state, (name, 2), &[0; 8_193]);

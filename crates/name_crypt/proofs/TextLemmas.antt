@@ -9,7 +9,7 @@ use Rattle.base64.specs.GeneralPurpose.{decode_of}
 use Rattle.base64.proofs.EngineFacts.{decode_of-encode_of}
 use Rattle.byte_words.specs.Bytes.{AreBytes}
 use Rattle.byte_words.proofs.AreBytesLemmas.{AreBytes-append, AreBytes-zeros}
-use Rattle.name_crypt.specs.NoKeyText.{nokey_text_of, shown_bytes}
+use Rattle.name_crypt.specs.NoKeyText.{nokey_text_of, visible_bytes}
 use Rattle.name_crypt.proofs.Symbols.{symbols_of, length-symbols_of}
 
 -- different bytes have different symbols
@@ -19,22 +19,22 @@ same_symbols xs ys left right same =
     cc both
 
 -- a stored name of at most 149 bytes is shown whole; of a longer one 181 bytes are shown
-pub shown_whole : (stored : List ℕ) → length stored ≤ 149 → shown_bytes stored ≡ stored
+pub shown_whole : (stored : List ℕ) → length stored ≤ 149 → visible_bytes stored ≡ stored
 shown_whole stored few = rw (le-leb (length stored) 149 few) refl
 
-pub shown_cut : (stored : List ℕ) → 149 < length stored → shown_bytes stored ≡ take 149 stored ++ sha256 (drop 149 stored)
+pub shown_cut : (stored : List ℕ) → 149 < length stored → visible_bytes stored ≡ take 149 stored ++ sha256 (drop 149 stored)
 shown_cut stored many = rw (lt-leb (length stored) 149 many) refl
 
-pub length-shown_bytes : (stored : List ℕ) → 149 < length stored → length (shown_bytes stored) ≡ 181
-length-shown_bytes stored many =
+pub length-visible_bytes : (stored : List ℕ) → 149 < length stored → length (visible_bytes stored) ≡ 181
+length-visible_bytes stored many =
     rw (lt-leb (length stored) 149 many)
     (length-append (take 149 stored) (sha256 (drop 149 stored))
     ∙ omega (arith, length-take-le 149 stored (omega arith), length-sha256 (drop 149 stored)))
 
-pub length-nokey_text_of : (stored : List ℕ) → length (nokey_text_of stored) ≡ (4 * (8 + length (shown_bytes stored)) + 2) / 3
+pub length-nokey_text_of : (stored : List ℕ) → length (nokey_text_of stored) ≡ (4 * (8 + length (visible_bytes stored)) + 2) / 3
 length-nokey_text_of stored =
-    length-symbols_of (replicate 8 0 ++ shown_bytes stored)
-    ∙ ap (λ n. (4 * n + 2) / 3) (length-append (replicate 8 0) (shown_bytes stored))
+    length-symbols_of (replicate 8 0 ++ visible_bytes stored)
+    ∙ ap (λ n. (4 * n + 2) / 3) (length-append (replicate 8 0) (visible_bytes stored))
 
 pub short_texts : (a b : List ℕ) → AreBytes a → AreBytes b → length a ≤ 149 → length b ≤ 149 → nokey_text_of a ≡ nokey_text_of b → a ≡ b
 short_texts a b left right a_few b_few same =
@@ -45,4 +45,4 @@ short_texts a b left right a_few b_few same =
 
 pub long_texts : (a b : List ℕ) → length a ≤ 149 → 149 < length b → ¬ (nokey_text_of a ≡ nokey_text_of b)
 long_texts a b few many = λ same.
-    omega (arith, ap length same, length-nokey_text_of a, length-nokey_text_of b, ap length (shown_whole a few), length-shown_bytes b many)
+    omega (arith, ap length same, length-nokey_text_of a, length-nokey_text_of b, ap length (shown_whole a few), length-visible_bytes b many)

@@ -2,7 +2,7 @@
 use Rattle.std.specs.Prelude.{◌≡◌, ◌<◌, ◌≤◌, ℕ, List, length}
 use Rattle.byte_words.specs.Bytes.{AreBytes}
 use Rattle.policy_ctx.specs.declared.policy.Pad.{Pad}
-use Rattle.name_crypt.specs.declared.limits.TheConstants.{MOST_SPELLED_BYTES}
+use Rattle.name_crypt.specs.declared.limits.TheConstants.{MAX_SPELLED_BYTES}
 use Rattle.name_crypt.specs.Plain.{IsPlain, IsStored}
 use Rattle.name_crypt.specs.StoredName.{stored_name, plain_name}
 use Rattle.name_crypt.specs.NoKeyText.{nokey_text_of}
@@ -35,10 +35,10 @@ StoredNamesAreBytes =
 -- two stored names that are spelled whole have one text only if they are the same
 abbrev pub ShortTextsStayDistinct : Type 0
 ShortTextsStayDistinct =
-    (a b : List ℕ) → AreBytes a → AreBytes b → length a ≤ MOST_SPELLED_BYTES → length b ≤ MOST_SPELLED_BYTES
+    (a b : List ℕ) → AreBytes a → AreBytes b → length a ≤ MAX_SPELLED_BYTES → length b ≤ MAX_SPELLED_BYTES
     → nokey_text_of a ≡ nokey_text_of b → a ≡ b
 
 -- a stored name that is spelled whole and one that isn't have different texts
 abbrev pub LongTextsAreOthers : Type 0
-LongTextsAreOthers = (a b : List ℕ) → length a ≤ MOST_SPELLED_BYTES → MOST_SPELLED_BYTES < length b
+LongTextsAreOthers = (a b : List ℕ) → length a ≤ MAX_SPELLED_BYTES → MAX_SPELLED_BYTES < length b
     → ¬ (nokey_text_of a ≡ nokey_text_of b)

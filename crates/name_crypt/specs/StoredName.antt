@@ -7,12 +7,12 @@ use Rattle.byte_words.specs.Xor.{zero_filled}
 use Rattle.cts_mode.specs.Cts.{cts_encrypted, cts_decrypted}
 use Rattle.policy_ctx.specs.declared.policy.Pad.{Pad}
 use Rattle.policy_ctx.specs.Policy.{pad_size}
-use Rattle.name_crypt.specs.declared.limits.TheConstants.{MOST_NAME_BYTES, LEAST_STORED_BYTES}
+use Rattle.name_crypt.specs.declared.limits.TheConstants.{MAX_NAME_BYTES, MIN_STORED_BYTES}
 
 -- the length of a stored name: at least 16, rounded up to the padding, at most 255
 abbrev pub padded_length : Pad → ℕ → ℕ
 padded_length pad len =
-    min MOST_NAME_BYTES (div_ceil (max LEAST_STORED_BYTES len) (pad_size pad) * pad_size pad)
+    min MAX_NAME_BYTES (div_ceil (max MIN_STORED_BYTES len) (pad_size pad) * pad_size pad)
 
 -- the name, filled with NULs to that length and encrypted with ciphertext stealing
 unfoldable pub stored_name_with : List ℕ → List ℕ → Pad → List ℕ → List ℕ

@@ -6,7 +6,7 @@ ghost use Rattle.cts_mode.specs.Cts.{cts_decrypted};
 ghost use Rattle.name_crypt.specs.Plain.{IsPlain, IsStored};
 ghost use Rattle.name_crypt.specs.StoredName.{before_nul, padded_length, plain_name_with, stored_name_with};
 
-use crate::limits::{LEAST_STORED_BYTES, MOST_NAME_BYTES};
+use crate::limits::{MAX_NAME_BYTES, MIN_STORED_BYTES};
 use crate::plain::Plain;
 use crate::steps::Steps;
 use crate::stored::StoredName;
@@ -47,7 +47,7 @@ pub fn encrypt_name_with<L: Ledger>(
     ensures value { result ≡ stored_name_with key.now iv pad name.now }
     ensures tick { steps.new ≡ steps.old + 1 }
 {
-    let mut text = [0; MOST_NAME_BYTES];
+    let mut text = [0; MAX_NAME_BYTES];
     let len = encrypt_into(key, iv, pad, name.bytes(), &mut text, steps);
     StoredName::of(&text[..len])
 }
@@ -60,16 +60,16 @@ pub fn encrypt_into<L: Ledger>(
     iv: [u8; 16],
     pad: Pad,
     name: &[u8],
-    text: &mut [u8; MOST_NAME_BYTES],
+    text: &mut [u8; MAX_NAME_BYTES],
     steps: &mut Steps<L>,
 ) -> usize
     requires plain { IsPlain name.now }
-    requires zeros { text.old ≡ replicate MOST_NAME_BYTES 0 }
+    requires zeros { text.old ≡ replicate MAX_NAME_BYTES 0 }
     ensures value { take result text.new ≡ stored_name_with key.now iv pad name.now }
     ensures stored { IsStored (take result text.new) }
-    ensures least { LEAST_STORED_BYTES ≤ result }
-    ensures bound { result ≤ MOST_NAME_BYTES }
-    ensures behind { drop result text.new ≡ replicate (MOST_NAME_BYTES - result) 0 }
+    ensures least { MIN_STORED_BYTES ≤ result }
+    ensures bound { result ≤ MAX_NAME_BYTES }
+    ensures behind { drop result text.new ≡ replicate (MAX_NAME_BYTES - result) 0 }
     ensures tick { steps.new ≡ steps.old + 1 }
 {
     steps.tick();
@@ -93,7 +93,7 @@ pub fn decrypt_name_with(key: &Aes256, iv: [u8; 16], stored: &StoredName) -> Res
     ensures value { IfOk result (λ name. name ≡ plain_name_with key.now iv stored.now) }
     ensures not_plain { IsErr result ↔ (plain_name_with key.now iv stored.now ≡ []) }
 {
-    let bytes = deciphered(key, iv, stored);
+    let bytes = decrypted_text(key, iv, stored);
     match Plain::read(before_nul(bytes.bytes())) {
         Ok(name) => Ok(name),
         Err(_) => Err(NotPlain),
@@ -113,10 +113,10 @@ pub(crate) fn decrypt_in_place(key: &Aes256, iv: [u8; 16], text: &mut [u8]) -> u
 }
 
 // The decrypted bytes of a stored name, with the NULs after the name.
-fn deciphered(key: &Aes256, iv: [u8; 16], stored: &StoredName) -> Filled<MOST_NAME_BYTES>
+fn decrypted_text(key: &Aes256, iv: [u8; 16], stored: &StoredName) -> Filled<MAX_NAME_BYTES>
     ensures { result ≡ cts_decrypted key.now iv stored.now }
 {
-    let mut text = [0; MOST_NAME_BYTES];
+    let mut text = [0; MAX_NAME_BYTES];
     let len = stored.bytes().len();
     fill(&mut text, stored.bytes());
     cts_decrypt(key, iv, &mut text[..len]);
@@ -125,16 +125,16 @@ fn deciphered(key: &Aes256, iv: [u8; 16], stored: &StoredName) -> Filled<MOST_NA
 
 // The length of the stored name of a name of this length.
 fn padded_length(pad: Pad, len: usize) -> usize
-    requires { len ≤ MOST_NAME_BYTES }
+    requires { len ≤ MAX_NAME_BYTES }
     ensures { result ≡ padded_length pad len }
 {
     let size = pad.size();
-    (len.max(LEAST_STORED_BYTES).div_ceil(size) * size).min(MOST_NAME_BYTES)
+    (len.max(MIN_STORED_BYTES).div_ceil(size) * size).min(MAX_NAME_BYTES)
 }
 
 // Writes the bytes to the beginning of the text.
-fn fill(text: &mut [u8; MOST_NAME_BYTES], bytes: &[u8])
-    requires { length bytes.now ≤ MOST_NAME_BYTES }
+fn fill(text: &mut [u8; MAX_NAME_BYTES], bytes: &[u8])
+    requires { length bytes.now ≤ MAX_NAME_BYTES }
     ensures { text.new ≡ bytes.now ++ drop (length bytes.now) text.old }
 {
     text[..bytes.len()].copy_from_slice(bytes);

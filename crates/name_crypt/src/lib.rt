@@ -7,9 +7,9 @@ mod limits;
 mod name_laws;
 mod nokey;
 mod plain;
-mod shown;
 mod steps;
 mod stored;
+mod visible;
 
 pub use aes_core::Aes256;
 pub use cipher::{NameCipher, name_iv};
@@ -18,11 +18,11 @@ pub use encrypt::{
 };
 pub use item_list::{Bytes, Items};
 pub use limits::{
-    LEAST_STORED_BYTES, MOST_NAME_BYTES, MOST_SHOWN_BYTES, MOST_SPELLED_BYTES, MOST_TEXT_CHARACTERS,
+    MAX_NAME_BYTES, MAX_SPELLED_BYTES, MAX_TEXT_CHARACTERS, MAX_VISIBLE_BYTES, MIN_STORED_BYTES,
 };
 pub use name_laws::{names_come_back, texts_stay_distinct};
 pub use nokey::{NoKeyText, nokey_matches, nokey_text};
 pub use plain::{Plain, PlainFault, is_plain};
-pub use shown::{is_shown_as, shown_by};
 pub use steps::Steps;
 pub use stored::{StoredLength, StoredName};
+pub use visible::{has_visible_name, shown_by};

@@ -4,10 +4,10 @@ ghost use Rattle.std.specs.Prelude.{◌≡◌, ◌<◌, ◌≤◌, ◌↔◌, �
 ghost use Rattle.base64.specs.Engines.{url_safe_no_pad};
 ghost use Rattle.base64.specs.GeneralPurpose.{encode_of};
 ghost use Rattle.sha2.specs.Sha256.{sha256};
-ghost use Rattle.name_crypt.specs.declared.limits.TheConstants.{MOST_TEXT_CHARACTERS};
-ghost use Rattle.name_crypt.specs.NoKeyText.{nokey_text_of, shown_bytes};
+ghost use Rattle.name_crypt.specs.declared.limits.TheConstants.{MAX_TEXT_CHARACTERS};
+ghost use Rattle.name_crypt.specs.NoKeyText.{nokey_text_of, visible_bytes};
 
-use crate::limits::{MOST_NAME_BYTES, MOST_SPELLED_BYTES, MOST_TEXT_CHARACTERS};
+use crate::limits::{MAX_NAME_BYTES, MAX_SPELLED_BYTES, MAX_TEXT_CHARACTERS};
 use crate::stored::StoredName;
 use base64::engine::general_purpose::URL_SAFE_NO_PAD;
 use sha2::{Digest, Sha256};
@@ -17,7 +17,7 @@ use std::marker::Model;
 /// The no-key text of a stored name: at most 252 characters.
 #[derive(Clone, Copy, Debug, PartialEq, Eq, Hash)]
 pub struct NoKeyText {
-    characters: Filled<MOST_TEXT_CHARACTERS>,
+    characters: Filled<MAX_TEXT_CHARACTERS>,
 }
 
 impl Model for NoKeyText {
@@ -25,7 +25,7 @@ impl Model for NoKeyText {
 
     ghost view = { λ text. text.characters };
 
-    ghost invariant = { λ text. length text.characters ≤ MOST_TEXT_CHARACTERS };
+    ghost invariant = { λ text. length text.characters ≤ MAX_TEXT_CHARACTERS };
 
     ghost inverse = { λ bytes. record { characters = bytes } };
 }
@@ -34,7 +34,7 @@ impl NoKeyText {
     /// Returns the characters, each of one byte.
     pub fn bytes(&self) -> &[u8]
         ensures value { result.now ≡ self.now }
-        ensures bound { length result.now ≤ MOST_TEXT_CHARACTERS }
+        ensures bound { length result.now ≤ MAX_TEXT_CHARACTERS }
     {
         self.characters.bytes()
     }
@@ -47,7 +47,7 @@ pub fn nokey_text(stored: &StoredName) -> NoKeyText
     ensures { result ≡ nokey_text_of stored.now }
 {
     let source = encoded_bytes(stored.bytes());
-    let mut characters = [0; MOST_TEXT_CHARACTERS];
+    let mut characters = [0; MAX_TEXT_CHARACTERS];
     let Ok(len) = URL_SAFE_NO_PAD.encode_slice(source.bytes(), &mut characters) else {
         unreachable!();
     };
@@ -58,14 +58,14 @@ pub fn nokey_text(stored: &StoredName) -> NoKeyText
 
 // The bytes that the text encodes.
 fn encoded_bytes(stored: &[u8]) -> Filled<189>
-    requires { length stored.now ≤ MOST_NAME_BYTES }
-    ensures { result ≡ replicate 8 0 ++ shown_bytes stored.now }
+    requires { length stored.now ≤ MAX_NAME_BYTES }
+    ensures { result ≡ replicate 8 0 ++ visible_bytes stored.now }
 {
     let mut bytes = Filled::of(&[0; 8]);
-    if stored.len() <= MOST_SPELLED_BYTES {
+    if stored.len() <= MAX_SPELLED_BYTES {
         bytes.append(stored);
     } else {
-        let (spelled, hashed) = stored.split_at(MOST_SPELLED_BYTES);
+        let (spelled, hashed) = stored.split_at(MAX_SPELLED_BYTES);
         bytes.append(spelled);
         bytes.append(&Sha256::digest(hashed));
     }
@@ -79,7 +79,7 @@ pub fn nokey_matches(text: &[u8], stored: &StoredName) -> bool
     ensures { IsTrue result ↔ (text.now ≡ nokey_text_of stored.now) }
 {
     let bytes = stored.bytes();
-    if bytes.len() <= MOST_SPELLED_BYTES {
+    if bytes.len() <= MAX_SPELLED_BYTES {
         return is_spelled_part(text, bytes);
     }
     is_hashed_text(text, bytes)
@@ -88,9 +88,9 @@ pub fn nokey_matches(text: &[u8], stored: &StoredName) -> bool
 // The same for a stored name of more than 149 bytes. 8 zeros and the first 148 bytes are 52 groups of
 // three, so their 208 symbols can be compared before the hash is computed.
 fn is_hashed_text(text: &[u8], stored: &[u8]) -> bool
-    requires { MOST_SPELLED_BYTES < length stored.now }
+    requires { MAX_SPELLED_BYTES < length stored.now }
     ensures { IsTrue result ↔ (text.now ≡ encode_of url_safe_no_pad (replicate 8 0
-        ++ (take MOST_SPELLED_BYTES stored.now ++ sha256 (drop MOST_SPELLED_BYTES stored.now)))) }
+        ++ (take MAX_SPELLED_BYTES stored.now ++ sha256 (drop MAX_SPELLED_BYTES stored.now)))) }
 {
     if text.len() < 208 {
         return false;
@@ -105,7 +105,7 @@ fn is_hashed_text(text: &[u8], stored: &[u8]) -> bool
 
 // Whether the text is the base64url of eight zeros and these bytes.
 fn is_spelled_part(text: &[u8], first: &[u8]) -> bool
-    requires { length first.now ≤ MOST_SPELLED_BYTES }
+    requires { length first.now ≤ MAX_SPELLED_BYTES }
     ensures { IsTrue result ↔ (text.now ≡ encode_of url_safe_no_pad (replicate 8 0 ++ first.now)) }
 {
     let mut source = Filled::<157>::of(&[0; 8]);

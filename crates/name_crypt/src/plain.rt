@@ -5,7 +5,7 @@ ghost use Rattle.std.specs.Prelude.{IsOk, IsTrue, IfOk, IsErrOf};
 ghost use Rattle.byte_words.specs.Bytes.{AreBytes};
 ghost use Rattle.name_crypt.specs.Plain.{IsPlain};
 
-use crate::limits::MOST_NAME_BYTES;
+use crate::limits::MAX_NAME_BYTES;
 use short_bytes::Filled;
 use std::marker::Model;
 use thiserror::Error;
@@ -13,7 +13,7 @@ use thiserror::Error;
 /// A name of a directory's entry, or a symlink's target: 1 to 255 bytes, none of them NUL.
 #[derive(Clone, Copy, Debug, PartialEq, Eq, Hash)]
 pub struct Plain {
-    bytes: Filled<MOST_NAME_BYTES>,
+    bytes: Filled<MAX_NAME_BYTES>,
 }
 
 impl Model for Plain {
@@ -41,7 +41,7 @@ pub enum PlainFault {
 pub fn is_plain(bytes: &[u8]) -> bool
     ensures { IsTrue result ↔ IsPlain bytes.now }
 {
-    !bytes.is_empty() && bytes.len() <= MOST_NAME_BYTES && !bytes.contains(&0)
+    !bytes.is_empty() && bytes.len() <= MAX_NAME_BYTES && !bytes.contains(&0)
 }
 
 impl Plain {
@@ -51,11 +51,11 @@ impl Plain {
         ensures value { IfOk result (λ name. name ≡ bytes.now) }
         ensures plain { IsOk result ↔ IsPlain bytes.now }
         ensures length { IsErrOf result PlainFault.Length
-            ↔ ((length bytes.now ≡ 0) ⊎ (MOST_NAME_BYTES < length bytes.now)) }
+            ↔ ((length bytes.now ≡ 0) ⊎ (MAX_NAME_BYTES < length bytes.now)) }
         ensures nul { IsErrOf result PlainFault.Nul ↔ ((1 ≤ length bytes.now)
-            × (length bytes.now ≤ MOST_NAME_BYTES) × Contains bytes.now 0) }
+            × (length bytes.now ≤ MAX_NAME_BYTES) × Contains bytes.now 0) }
     {
-        if bytes.is_empty() || bytes.len() > MOST_NAME_BYTES {
+        if bytes.is_empty() || bytes.len() > MAX_NAME_BYTES {
             return Err(PlainFault::Length);
         }
         if bytes.contains(&0) {

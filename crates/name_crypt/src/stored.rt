@@ -4,7 +4,7 @@ ghost use Rattle.std.specs.Prelude.{◌≡◌, ◌<◌, ◌↔◌, ◌⊎◌, �
 ghost use Rattle.byte_words.specs.Bytes.{AreBytes};
 ghost use Rattle.name_crypt.specs.Plain.{IsStored};
 
-use crate::limits::{LEAST_STORED_BYTES, MOST_NAME_BYTES};
+use crate::limits::{MAX_NAME_BYTES, MIN_STORED_BYTES};
 use short_bytes::Filled;
 use std::marker::Model;
 use thiserror::Error;
@@ -12,7 +12,7 @@ use thiserror::Error;
 /// An encrypted name or target: 16 to 255 bytes.
 #[derive(Clone, Copy, Debug, PartialEq, Eq, Hash)]
 pub struct StoredName {
-    bytes: Filled<MOST_NAME_BYTES>,
+    bytes: Filled<MAX_NAME_BYTES>,
 }
 
 impl Model for StoredName {
@@ -35,10 +35,10 @@ impl StoredName {
     /// 255.
     pub fn read(bytes: &[u8]) -> Result<StoredName, StoredLength>
         ensures value { IfOk result (λ name. name ≡ bytes.now) }
-        ensures length { IsErr result ↔ ((length bytes.now < LEAST_STORED_BYTES)
-            ⊎ (MOST_NAME_BYTES < length bytes.now)) }
+        ensures length { IsErr result ↔ ((length bytes.now < MIN_STORED_BYTES)
+            ⊎ (MAX_NAME_BYTES < length bytes.now)) }
     {
-        if bytes.len() < LEAST_STORED_BYTES || bytes.len() > MOST_NAME_BYTES {
+        if bytes.len() < MIN_STORED_BYTES || bytes.len() > MAX_NAME_BYTES {
             return Err(StoredLength);
         }
         Ok(StoredName::of(bytes))

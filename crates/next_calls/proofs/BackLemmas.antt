@@ -3,32 +3,32 @@ use Rattle.std.proofs.Common.{◌≡◌, ℕ, ◌+◌, ◌≤◌, ◌<◌, List,
 use Rattle.std.proofs.Math.Seq.{take-append_seam, drop-append_seam}
 use Rattle.std.proofs.lemmas.List.{reverse-append, length-map, map-append}
 use Rattle.mount_model.specs.declared.reply.Reply.{Reply}
-use Rattle.reply_text.specs.Shown.{PlacedShown, ShownEntry}
-use Rattle.next_calls.specs.NextCalls.{shown_replies}
+use Rattle.reply_text.specs.Logged.{PlacedLogged, LoggedEntry}
+use Rattle.next_calls.specs.NextCalls.{logged_replies}
 
 -- the list without some of its last entries, of which `least` or more remain
-pub record IsShrunk (old now : PlacedShown) (least : ℕ) : Type 0 where
-  pub gone : PlacedShown
+pub record IsShrunk (old now : PlacedLogged) (least : ℕ) : Type 0 where
+  pub gone : PlacedLogged
   pub all : old ≡ now ++ gone
   pub room : least ≤ length now
 
 -- entries were dropped, and then the replies of those before them were taken, the last one first, while
 -- more than `kept` were left
-pub record IsTakenBack (old now : PlacedShown) (replies : List Reply) (kept count : ℕ) : Type 0 where
-  pub taken : PlacedShown
-  pub gone : PlacedShown
+pub record IsTakenBack (old now : PlacedLogged) (replies : List Reply) (kept count : ℕ) : Type 0 where
+  pub taken : PlacedLogged
+  pub gone : PlacedLogged
   pub all : old ≡ now ++ (taken ++ gone)
-  pub replied : reverse replies ≡ shown_replies taken
+  pub replied : reverse replies ≡ logged_replies taken
   pub long : length now + length taken ≡ kept + count
   pub room : kept ≤ length now
 
-one_shorter : (now next : PlacedShown) (x : ℕ × ShownEntry) → now ≡ next ++ x ∷ [] → length now ≡ length next + 1
+one_shorter : (now next : PlacedLogged) (x : ℕ × LoggedEntry) → now ≡ next ++ x ∷ [] → length now ≡ length next + 1
 one_shorter now next x is = ap length is ∙ length-append next (x ∷ [])
 
-pub shrunk_none : (old : PlacedShown) (least : ℕ) → least ≤ length old → IsShrunk old old least
+pub shrunk_none : (old : PlacedLogged) (least : ℕ) → least ≤ length old → IsShrunk old old least
 shrunk_none old least room = record { gone = []; all = sym (append-nil old); room = room }
 
-pub shrunk_more : (old now next : PlacedShown) (least : ℕ) (x : ℕ × ShownEntry) → IsShrunk old now least → now ≡ next ++ x ∷ [] → least < length now
+pub shrunk_more : (old now next : PlacedLogged) (least : ℕ) (x : ℕ × LoggedEntry) → IsShrunk old now least → now ≡ next ++ x ∷ [] → least < length now
     → IsShrunk old next least
 shrunk_more old now next least x so is more =
     let long = one_shorter now next x is in
@@ -38,7 +38,7 @@ shrunk_more old now next least x so is more =
       room = omega (arith, long, more);
     }
 
-pub taken_none : (old now : PlacedShown) (kept count : ℕ) → IsShrunk old now (kept + count) → length now ≤ kept + count → IsTakenBack old now [] kept count
+pub taken_none : (old now : PlacedLogged) (kept count : ℕ) → IsShrunk old now (kept + count) → length now ≤ kept + count → IsTakenBack old now [] kept count
 taken_none old now kept count so few =
     let room = so.room in
     record {
@@ -50,7 +50,7 @@ taken_none old now kept count so few =
       room = omega (arith, room);
     }
 
-pub taken_more : (old now next : PlacedShown) (replies more : List Reply) (kept count place : ℕ) (entry : ShownEntry) (reply : Reply)
+pub taken_more : (old now next : PlacedLogged) (replies more : List Reply) (kept count place : ℕ) (entry : LoggedEntry) (reply : Reply)
     → IsTakenBack old now replies kept count → now ≡ next ++ (place, entry) ∷ [] → kept < length now → reply ≡ entry.reply → more ≡ replies ++ reply ∷ []
     → IsTakenBack old next more kept count
 taken_more old now next replies more kept count place entry reply so is longer its grown =
@@ -65,24 +65,24 @@ taken_more old now next replies more kept count place entry reply so is longer i
       room = omega (arith, short, longer);
     }
 
-pub taken_kept : (old now : PlacedShown) (replies : List Reply) (kept count : ℕ) → IsTakenBack old now replies kept count → length now ≤ kept
+pub taken_kept : (old now : PlacedLogged) (replies : List Reply) (kept count : ℕ) → IsTakenBack old now replies kept count → length now ≤ kept
     → now ≡ take kept old
 taken_kept old now replies kept count so few =
     let room = so.room in
     let is : length now ≡ kept = omega (arith, few, room) in
     sym (ap (take kept) so.all ∙ ap (λ n. take n (now ++ (so.taken ++ so.gone))) (sym is) ∙ take-append_seam now (so.taken ++ so.gone))
 
-pub taken_replies : (old now : PlacedShown) (replies : List Reply) (kept count : ℕ) → IsTakenBack old now replies kept count → length now ≤ kept
-    → reverse replies ≡ take count (shown_replies (drop kept old))
+pub taken_replies : (old now : PlacedLogged) (replies : List Reply) (kept count : ℕ) → IsTakenBack old now replies kept count → length now ≤ kept
+    → reverse replies ≡ take count (logged_replies (drop kept old))
 taken_replies old now replies kept count so few =
     let room = so.room in
     let long = so.long in
     let is : length now ≡ kept = omega (arith, few, room) in
-    let many : length (shown_replies so.taken) ≡ count = length-map _ _ ∙ omega (arith, long, is) in
+    let many : length (logged_replies so.taken) ≡ count = length-map _ _ ∙ omega (arith, long, is) in
     so.replied ∙ sym (
-    ap (λ l. take count (shown_replies (drop kept l))) so.all
-    ∙ ap (λ n. take count (shown_replies (drop n (now ++ (so.taken ++ so.gone))))) (sym is)
-    ∙ ap (λ l. take count (shown_replies l)) (drop-append_seam now (so.taken ++ so.gone))
-    ∙ ap (take count) (map-append (λ (x : ℕ × ShownEntry). x.1.reply) so.taken so.gone)
-    ∙ ap (λ n. take n (shown_replies so.taken ++ shown_replies so.gone)) (sym many)
-    ∙ take-append_seam (shown_replies so.taken) (shown_replies so.gone))
+    ap (λ l. take count (logged_replies (drop kept l))) so.all
+    ∙ ap (λ n. take count (logged_replies (drop n (now ++ (so.taken ++ so.gone))))) (sym is)
+    ∙ ap (λ l. take count (logged_replies l)) (drop-append_seam now (so.taken ++ so.gone))
+    ∙ ap (take count) (map-append (λ (x : ℕ × LoggedEntry). x.1.reply) so.taken so.gone)
+    ∙ ap (λ n. take n (logged_replies so.taken ++ logged_replies so.gone)) (sym many)
+    ∙ take-append_seam (logged_replies so.taken) (logged_replies so.gone))

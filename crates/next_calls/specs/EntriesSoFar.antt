@@ -11,7 +11,7 @@ use Rattle.next_calls.specs.Callers.{CallerView, call_of, steps_under_way}
 
 -- these entries of the caller are a run of the commands before the one under way, followed by entries
 -- with which its steps begin
-pub record StandsIn (seed : List ℕ) (caller : CallerView) (placed : PlacedCalls) : Type 0 where
+pub record IsCallerAfter (seed : List ℕ) (caller : CallerView) (placed : PlacedCalls) : Type 0 where
   pub before : PlacedCalls
   pub made : PlacedCalls
   pub rest : CommandSteps
@@ -28,10 +28,10 @@ pub record Awaits (seed : List ℕ) (caller : CallerView) (placed : PlacedCalls)
   pub comes : next_call seed caller.caller caller.section (entries_of placed) ≡ call_of caller
   pub whole : caller.waiting ≡ None → IsRunOfSection seed caller.caller caller.section placed
       × (caller.notes ≡ notes_of_section seed caller.caller caller.section placed)
-  pub stands : StandsIn seed caller placed
-  pub asks : next_of (steps_under_way seed caller) (entries_of stands.made) ≡ call_of caller
+  pub is_after : IsCallerAfter seed caller placed
+  pub asks : next_of (steps_under_way seed caller) (entries_of is_after.made) ≡ call_of caller
 
 -- it waits for a reply, or for none; or it continues with the command that is under way now
 abbrev pub GoesOn : Bool → List ℕ → CallerView → PlacedCalls → Type 0
 GoesOn true seed caller placed = Awaits seed caller placed
-GoesOn false seed caller placed = StandsIn seed caller placed
+GoesOn false seed caller placed = IsCallerAfter seed caller placed

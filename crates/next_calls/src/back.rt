@@ -1,12 +1,12 @@
 //! Removing the entries that a run appended, and taking their replies back.
 
 ghost use Rattle.std.specs.Prelude.{◌≡◌, ◌+◌, ◌≤◌, length, take, drop, reverse, IfOk, OnOk};
-ghost use Rattle.next_calls.specs.NextCalls.{shown_replies};
+ghost use Rattle.next_calls.specs.NextCalls.{logged_replies};
 
 use call_history::Entry;
 use fsc_commands::EntryList;
 use mount_model::Reply;
-use reply_text::Shown;
+use reply_text::LoggedCall;
 use std::alloc::{AllocError, Global};
 
 // Removes the entries from the index `kept` on, and returns the replies of the first `count` of them, the
@@ -21,7 +21,7 @@ pub(crate) fn take_back(
     requires { kept + count ≤ length entries.old }
     ensures kept { OnOk result (entries.new ≡ take kept entries.old) }
     ensures replies { IfOk result (λ replies. reverse replies.items
-        ≡ take count (shown_replies (drop kept entries.old))) }
+        ≡ take count (logged_replies (drop kept entries.old))) }
 {
     'further: while entries.len() > kept + count {
         let_go(entries.pop());
@@ -36,9 +36,9 @@ pub(crate) fn take_back(
 }
 
 // In a function of its own: in a function with branches, each branch would drop each variant.
-fn let_go(_placed: Option<(u64, Entry<Shown, Reply>)>) {}
+fn let_go(_placed: Option<(u64, Entry<LoggedCall, Reply>)>) {}
 
-fn reply_of(entry: Entry<Shown, Reply>) -> Reply
+fn reply_of(entry: Entry<LoggedCall, Reply>) -> Reply
     ensures { result ≡ entry.reply }
 {
     entry.reply

@@ -8,9 +8,9 @@ ghost use Rattle.mount_model.specs.declared.call.Call.{Call};
 ghost use Rattle.mount_model.specs.Port.{PlacedCalls};
 ghost use Rattle.fsc_session.specs.Asking.{AsksRightly};
 ghost use Rattle.next_calls.specs.Callers.{IsNearer, WaitingFits};
-ghost use Rattle.next_calls.specs.EntriesSoFar.{Awaits, GoesOn, StandsIn};
+ghost use Rattle.next_calls.specs.EntriesSoFar.{Awaits, GoesOn, IsCallerAfter};
 
-use crate::listing::keep_last_listing;
+use crate::listing::retain_last_listing;
 use crate::next::{Next, discard, next_call};
 use argon_kdf::Stretch;
 use fsc_commands::{EntryList, Turn};
@@ -151,7 +151,7 @@ impl<'a> Caller<'a> {
         requires ready { S.ready stretches.now }
         ensures caller { self.new.caller ≡ self.old.caller }
         ensures section { self.new.section ≡ self.old.section }
-        ensures awaits { OnOk result ((placed : PlacedCalls) → StandsIn seed.now self.old placed
+        ensures awaits { OnOk result ((placed : PlacedCalls) → IsCallerAfter seed.now self.old placed
             → Awaits seed.now self.new placed) }
     {
         'commands: while !self.step(alloc, stretches, seed)? {}
@@ -170,7 +170,7 @@ impl<'a> Caller<'a> {
         ensures caller { self.new.caller ≡ self.old.caller }
         ensures section { self.new.section ≡ self.old.section }
         ensures goes_on { IfOk result (λ waits. (placed : PlacedCalls)
-            → StandsIn seed.now self.old placed → GoesOn waits seed.now self.new placed) }
+            → IsCallerAfter seed.now self.old placed → GoesOn waits seed.now self.new placed) }
         ensures nearer { IfOk result (λ waits. IsFalse waits → IsNearer self.old self.new) }
     {
         let commands = self.section.commands.as_slice();
@@ -199,7 +199,7 @@ impl<'a> Caller<'a> {
                 Ok(true)
             }
             Next::Ended(outcome) => {
-                keep_last_listing(alloc, &mut self.listing)?;
+                retain_last_listing(alloc, &mut self.listing)?;
                 note(&mut self.notes, self.caller, command, outcome)?;
                 self.next += 1;
                 Ok(false)

@@ -1,21 +1,21 @@
 //! The names of a caller's last listing.
 
 ghost use Rattle.std.specs.Prelude.{◌≡◌, [], ◌∷◌, OnOk, is_some};
-ghost use Rattle.fsc_commands.specs.Steps.{names_in, names_told};
+ghost use Rattle.fsc_commands.specs.Steps.{names_in, names_of_reply};
 
 use call_history::Entry;
 use fsc_commands::EntryList;
 use mount_model::Reply;
-use reply_text::Shown;
+use reply_text::LoggedCall;
 use std::alloc::{AllocError, Global};
 use std::mem;
 
 // Retains the last of the entries with names, if there is one, and drops the others.
-pub(crate) fn keep_last_listing(alloc: Global, entries: &mut EntryList) -> Result<(), AllocError>
+pub(crate) fn retain_last_listing(alloc: Global, entries: &mut EntryList) -> Result<(), AllocError>
     ensures { OnOk result (names_in entries.new ≡ names_in entries.old) }
 {
     'told: while let Some(placed) = entries.pop() {
-        if tells_names(&placed.1.reply) {
+        if lists_names(&placed.1.reply) {
             return keep_alone(alloc, entries, placed);
         }
         let_go(placed);
@@ -27,7 +27,7 @@ pub(crate) fn keep_last_listing(alloc: Global, entries: &mut EntryList) -> Resul
 fn keep_alone(
     alloc: Global,
     entries: &mut EntryList,
-    placed: (u64, Entry<Shown, Reply>),
+    placed: (u64, Entry<LoggedCall, Reply>),
 ) -> Result<(), AllocError>
     ensures { OnOk result (entries.new ≡ placed ∷ []) }
 {
@@ -38,13 +38,13 @@ fn keep_alone(
 }
 
 // Whether a reply has names.
-fn tells_names(reply: &Reply) -> bool
-    ensures { result ≡ is_some (names_told reply.now) }
+fn lists_names(reply: &Reply) -> bool
+    ensures { result ≡ is_some (names_of_reply reply.now) }
 {
     matches!(reply, Reply::Names { .. })
 }
 
 // In functions of their own: in a function with branches, each branch would drop each variant.
-fn let_go(_placed: (u64, Entry<Shown, Reply>)) {}
+fn let_go(_placed: (u64, Entry<LoggedCall, Reply>)) {}
 
 fn let_all_go(_entries: EntryList) {}

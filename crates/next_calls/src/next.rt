@@ -1,15 +1,15 @@
 //! The next step of a command.
 
 ghost use Rattle.std.specs.Prelude.{◌≡◌, ◌+◌, ◌≤◌, length, take, drop, reverse, IfOk, OnOk};
-ghost use Rattle.script_lang.specs.Asked.{IsAskable};
+ghost use Rattle.script_lang.specs.CommandTasks.{IsAskable};
 ghost use Rattle.fsc_commands.specs.Commands.{command_steps};
 ghost use Rattle.fsc_commands.specs.Steps.{names_in};
-ghost use Rattle.next_calls.specs.NextCalls.{IsNext, NextFits, replies_left, shown_replies};
+ghost use Rattle.next_calls.specs.NextCalls.{IsNext, NextFits, remaining_replies, logged_replies};
 ghost use Rattle.next_calls.specs.declared.next.Next.TheVariants as variants;
 
 use crate::back::take_back;
 use argon_kdf::Stretch;
-use fsc_commands::{EntryList, MOST_CALLS, Turn, run_command, wipe_call};
+use fsc_commands::{EntryList, MAX_CALLS, Turn, run_command, wipe_call};
 use mount_model::{Call, Reply};
 use reply_text::Outcome;
 use script_lang::Verb;
@@ -45,24 +45,24 @@ pub fn next_call<S: Stretch>(
     ensures next { IfOk result (IsNext turn.caller
         (command_steps seed.now turn.caller turn.uid turn.number (names_in entries.old) verb.now)
         (reverse replies.old.items) entries.old entries.new) }
-    ensures replies { IfOk result (λ next. replies.new.items ≡ replies_left replies.old.items next) }
+    ensures replies { IfOk result (λ next. replies.new.items ≡ remaining_replies replies.old.items next) }
     ensures fits { IfOk result NextFits }
 {
     let kept = entries.len();
     let count = replies.len();
     let listed = mem::replace(replies, Vec::new(alloc));
-    let mut port = ScriptedPort::new(alloc, turn.caller, MOST_CALLS, listed);
+    let mut port = ScriptedPort::new(alloc, turn.caller, MAX_CALLS, listed);
     let outcome = run_command(alloc, &mut port, stretches, seed, turn, verb, entries)?;
     match port.into_further() {
         Further::Unasked => Ok(Next::Ended(outcome)),
-        Further::Asked(call) => call_behind(alloc, call, entries, kept, replies, count),
+        Further::Asked(call) => following_call(alloc, call, entries, kept, replies, count),
         Further::Lost => Err(AllocError),
     }
 }
 
 // Returns the call as the next one. Removes the entries from the index `kept` on again, and puts back the
 // replies of the first `count` of them, which are those that were listed.
-fn call_behind(
+fn following_call(
     alloc: Global,
     call: Call,
     entries: &mut EntryList,
@@ -74,7 +74,7 @@ fn call_behind(
     ensures next { IfOk result (λ it. it ≡ variants.Call call) }
     ensures kept { OnOk result (entries.new ≡ take kept entries.old) }
     ensures replies { OnOk result (reverse replies.new.items
-        ≡ take count (shown_replies (drop kept entries.old))) }
+        ≡ take count (logged_replies (drop kept entries.old))) }
 {
     match take_back(alloc, entries, kept, count) {
         Ok(listed) => {

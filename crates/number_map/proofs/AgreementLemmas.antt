@@ -3,7 +3,7 @@ use Rattle.std.proofs.Common.{◌≡◌, ℕ, Bool, true, false, cond, ◌&&◌,
 use Rattle.std.specs.Ordering.{nat_cmp, eq_by_cmp, is_lt}
 use Rattle.std.specs.FinMap.{get-entries, entries_sorted, from_sorted, get-from_sorted, entries-from_sorted}
 use Rattle.std.specs.FinMap.Entries.{find, is_sorted, below_all}
-use Rattle.number_map.specs.Numbered.{Numbered, get, entries, AgreesUnder}
+use Rattle.number_map.specs.Numbered.{NumberedValues, get, entries, AgreesUnder}
 use Rattle.number_map.proofs.NumberedLemmas.{same_numbered}
 use Rattle.number_map.proofs.NumberTests.{same_of_tied}
 
@@ -31,10 +31,10 @@ module _ {V W : Type 0} (f : ℕ → V → W) where
       ap (cond (eq_by_cmp nat_cmp q e.0) (Some (f e.0 e.1))) (find_mapped q es)
       ∙ by_test q e (find nat_cmp q es) (eq_by_cmp nat_cmp q e.0) refl
 
-  pub agree_entries_by : (plain : Numbered V) (stored : Numbered W) → ((q : ℕ) → get stored q ≡ option_map (f q) (get plain q)) → entries stored ≡ mapped (entries plain)
+  pub agree_entries_by : (plain : NumberedValues V) (stored : NumberedValues W) → ((q : ℕ) → get stored q ≡ option_map (f q) (get plain q)) → entries stored ≡ mapped (entries plain)
   agree_entries_by plain stored agree =
       let sorted : T (is_sorted nat_cmp (mapped (entries plain))) = subst T (sym (sorted_mapped (entries plain))) (entries_sorted plain) in
-      let made : Numbered W = from_sorted (mapped (entries plain)) in
+      let made : NumberedValues W = from_sorted (mapped (entries plain)) in
       let same : stored ≡ made
       = same_numbered stored made
       (λ q. agree q ∙ ap (option_map (f q)) (get-entries plain q)
@@ -42,6 +42,6 @@ module _ {V W : Type 0} (f : ℕ → V → W) where
       ap entries same ∙ entries-from_sorted nat_cmp (mapped (entries plain)) sorted
 
 -- if the function depends only on the value
-pub agree_entries : {V W : Type 0} (f : V → W) (plain : Numbered V) (stored : Numbered W) → AgreesUnder f plain stored
+pub agree_entries : {V W : Type 0} (f : V → W) (plain : NumberedValues V) (stored : NumberedValues W) → AgreesUnder f plain stored
     → entries stored ≡ map (λ e. (e.0, f e.1)) (entries plain)
 agree_entries f plain stored agree = agree_entries_by (λ _. f) plain stored agree

@@ -4,68 +4,68 @@ use Rattle.std.proofs.Common.{◌≡◌, ◌≢◌, ℕ, ◌+◌, ◌-◌, cond,
 use Rattle.std.proofs.lemmas.Bool.{cases_eq}
 use Rattle.std.specs.Cmp.{nat_cmp_total}
 use Rattle.std.specs.FinMap.{get-insert, get-remove, len-insert, len-remove, same_map, nat_cmp-IsAntisymmetric}
-use Rattle.number_map.specs.Numbered.{Numbered, get, insert, remove, len, changed, changed_to, AgreesUnder}
+use Rattle.number_map.specs.Numbered.{NumberedValues, get, insert, remove, len, changed, changed_to, AgreesUnder}
 use Rattle.number_map.proofs.NumberTests.{tied, untied}
 
 module _ {V : Type 0} where
   -- maps with the same value at each number are equal
-  pub same_numbered : (m n : Numbered V) → ((q : ℕ) → get m q ≡ get n q) → m ≡ n
+  pub same_numbered : (m n : NumberedValues V) → ((q : ℕ) → get m q ≡ get n q) → m ≡ n
   same_numbered = same_map nat_cmp_total nat_cmp-IsAntisymmetric
 
-  pub insert_here : (m : Numbered V) (k : ℕ) (v : V) → get (insert m k v) k ≡ Some v
+  pub insert_here : (m : NumberedValues V) (k : ℕ) (v : V) → get (insert m k v) k ≡ Some v
   insert_here m k v = get-insert nat_cmp_total m k v k ∙ ap (λ b. cond b (Some v) (get m k)) (tied k k refl)
 
-  pub insert_other : (m : Numbered V) (k : ℕ) (v : V) (q : ℕ) → (q ≢ k) → get (insert m k v) q ≡ get m q
+  pub insert_other : (m : NumberedValues V) (k : ℕ) (v : V) (q : ℕ) → (q ≢ k) → get (insert m k v) q ≡ get m q
   insert_other m k v q differ = get-insert nat_cmp_total m k v q ∙ ap (λ b. cond b (Some v) (get m q)) (untied q k differ)
 
-  pub remove_here : (m : Numbered V) (k : ℕ) → get (remove m k) k ≡ None
+  pub remove_here : (m : NumberedValues V) (k : ℕ) → get (remove m k) k ≡ None
   remove_here m k = get-remove nat_cmp_total m k k ∙ ap (λ b. cond b None (get m k)) (tied k k refl)
 
-  pub remove_other : (m : Numbered V) (k q : ℕ) → (q ≢ k) → get (remove m k) q ≡ get m q
+  pub remove_other : (m : NumberedValues V) (k q : ℕ) → (q ≢ k) → get (remove m k) q ≡ get m q
   remove_other m k q differ = get-remove nat_cmp_total m k q ∙ ap (λ b. cond b None (get m q)) (untied q k differ)
 
   -- `changed` if the map has a value, and if it has none
-  pub changed_Some : (m : Numbered V) (k : ℕ) (f : V → V) (v : V) → get m k ≡ Some v → changed m k f ≡ insert m k (f v)
+  pub changed_Some : (m : NumberedValues V) (k : ℕ) (f : V → V) (v : V) → get m k ≡ Some v → changed m k f ≡ insert m k (f v)
   unfolding changed
   changed_Some m k f v has = ap (changed_to f m k) has
 
-  pub changed_None : (m : Numbered V) (k : ℕ) (f : V → V) → get m k ≡ None → changed m k f ≡ m
+  pub changed_None : (m : NumberedValues V) (k : ℕ) (f : V → V) → get m k ≡ None → changed m k f ≡ m
   unfolding changed
   changed_None m k f lacks = ap (changed_to f m k) lacks
 
-  here_by_case : (m : Numbered V) (k : ℕ) (f : V → V) (o : Option V) → get m k ≡ o → get (changed m k f) k ≡ option_map f o
+  here_by_case : (m : NumberedValues V) (k : ℕ) (f : V → V) (o : Option V) → get m k ≡ o → get (changed m k f) k ≡ option_map f o
   here_by_case m k f None is = ap (λ x. get x k) (changed_None m k f is) ∙ is
   here_by_case m k f (Some v) is = ap (λ x. get x k) (changed_Some m k f v is) ∙ insert_here m k (f v)
 
-  pub changed_here : (m : Numbered V) (k : ℕ) (f : V → V) → get (changed m k f) k ≡ option_map f (get m k)
+  pub changed_here : (m : NumberedValues V) (k : ℕ) (f : V → V) → get (changed m k f) k ≡ option_map f (get m k)
   changed_here m k f = here_by_case m k f (get m k) refl
 
-  other_by_case : (m : Numbered V) (k : ℕ) (f : V → V) (q : ℕ) (o : Option V) → get m k ≡ o → (q ≢ k) → get (changed m k f) q ≡ get m q
+  other_by_case : (m : NumberedValues V) (k : ℕ) (f : V → V) (q : ℕ) (o : Option V) → get m k ≡ o → (q ≢ k) → get (changed m k f) q ≡ get m q
   other_by_case m k f q None is differ = ap (λ x. get x q) (changed_None m k f is)
   other_by_case m k f q (Some v) is differ = ap (λ x. get x q) (changed_Some m k f v is) ∙ insert_other m k (f v) q differ
 
-  pub changed_other : (m : Numbered V) (k : ℕ) (f : V → V) (q : ℕ) → (q ≢ k) → get (changed m k f) q ≡ get m q
+  pub changed_other : (m : NumberedValues V) (k : ℕ) (f : V → V) (q : ℕ) → (q ≢ k) → get (changed m k f) q ≡ get m q
   changed_other m k f q differ = other_by_case m k f q (get m k) refl differ
 
   -- how many numbers have a value after each change
-  pub len_added : (m : Numbered V) (k : ℕ) (v : V) → get m k ≡ None → len (insert m k v) ≡ len m + 1
+  pub len_added : (m : NumberedValues V) (k : ℕ) (v : V) → get m k ≡ None → len (insert m k v) ≡ len m + 1
   len_added m k v lacks = len-insert nat_cmp_total m k v ∙ ap (λ o. cond (is_some o) (len m) (len m + 1)) lacks
 
-  pub len_replaced : (m : Numbered V) (k : ℕ) (v old : V) → get m k ≡ Some old → len (insert m k v) ≡ len m
+  pub len_replaced : (m : NumberedValues V) (k : ℕ) (v old : V) → get m k ≡ Some old → len (insert m k v) ≡ len m
   len_replaced m k v old has = len-insert nat_cmp_total m k v ∙ ap (λ o. cond (is_some o) (len m) (len m + 1)) has
 
-  pub len_removed : (m : Numbered V) (k : ℕ) (old : V) → get m k ≡ Some old → len (remove m k) ≡ len m - 1
+  pub len_removed : (m : NumberedValues V) (k : ℕ) (old : V) → get m k ≡ Some old → len (remove m k) ≡ len m - 1
   len_removed m k old has = len-remove nat_cmp_total m k ∙ ap (λ o. cond (is_some o) (len m - 1) (len m)) has
 
-  len_by_case : (m : Numbered V) (k : ℕ) (f : V → V) (o : Option V) → get m k ≡ o → len (changed m k f) ≡ len m
+  len_by_case : (m : NumberedValues V) (k : ℕ) (f : V → V) (o : Option V) → get m k ≡ o → len (changed m k f) ≡ len m
   len_by_case m k f None is = ap len (changed_None m k f is)
   len_by_case m k f (Some v) is = ap len (changed_Some m k f v is) ∙ len_replaced m k (f v) v is
 
-  pub len_changed : (m : Numbered V) (k : ℕ) (f : V → V) → len (changed m k f) ≡ len m
+  pub len_changed : (m : NumberedValues V) (k : ℕ) (f : V → V) → len (changed m k f) ≡ len m
   len_changed m k f = len_by_case m k f (get m k) refl
 
   -- the value that is there is put there
-  pub insert_same : (m : Numbered V) (k : ℕ) (v : V) → get m k ≡ Some v → insert m k v ≡ m
+  pub insert_same : (m : NumberedValues V) (k : ℕ) (v : V) → get m k ≡ Some v → insert m k v ≡ m
   insert_same m k v has =
       same_numbered _ _ (λ q. elim (cases_eq q k) [
         | inl is ↦ ap (get (insert m k v)) is ∙ insert_here m k v ∙ sym has ∙ ap (get m) (sym is)
@@ -73,7 +73,7 @@ module _ {V : Type 0} where
       ])
 
   -- a number that has no value is removed
-  pub remove_same : (m : Numbered V) (k : ℕ) → get m k ≡ None → remove m k ≡ m
+  pub remove_same : (m : NumberedValues V) (k : ℕ) → get m k ≡ None → remove m k ≡ m
   remove_same m k lacks =
       same_numbered _ _ (λ q. elim (cases_eq q k) [
         | inl is ↦ ap (get (remove m k)) is ∙ remove_here m k ∙ sym lacks ∙ ap (get m) (sym is)
@@ -81,7 +81,7 @@ module _ {V : Type 0} where
       ])
 
   -- a value that is inserted and removed leaves the map unchanged
-  pub removed_again : (m : Numbered V) (k : ℕ) (v : V) → get m k ≡ None → remove (insert m k v) k ≡ m
+  pub removed_again : (m : NumberedValues V) (k : ℕ) (v : V) → get m k ≡ None → remove (insert m k v) k ≡ m
   removed_again m k v lacks =
       same_numbered _ _ (λ q. elim (cases_eq q k) [
         | inl is ↦ ap (get (remove (insert m k v) k)) is ∙ remove_here _ k ∙ sym lacks ∙ ap (get m) (sym is)
@@ -89,7 +89,7 @@ module _ {V : Type 0} where
       ])
 
   -- if two values are put at one number, the later one is retained
-  pub insert_again : (m : Numbered V) (k : ℕ) (v w : V) → insert (insert m k v) k w ≡ insert m k w
+  pub insert_again : (m : NumberedValues V) (k : ℕ) (v w : V) → insert (insert m k v) k w ≡ insert m k w
   insert_again m k v w =
       same_numbered _ _ (λ q. elim (cases_eq q k) [
         | inl is ↦ ap (get (insert (insert m k v) k w)) is ∙ insert_here _ k w ∙ sym (insert_here m k w) ∙ ap (get (insert m k w)) (sym is)
@@ -97,11 +97,11 @@ module _ {V : Type 0} where
       ])
 
   -- a value that is put and then changed
-  pub changed_inserted : (m : Numbered V) (k : ℕ) (v : V) (f : V → V) → changed (insert m k v) k f ≡ insert m k (f v)
+  pub changed_inserted : (m : NumberedValues V) (k : ℕ) (v : V) (f : V → V) → changed (insert m k v) k f ≡ insert m k (f v)
   changed_inserted m k v f = changed_Some (insert m k v) k f v (insert_here m k v) ∙ insert_again m k v (f v)
 
   -- a change at another number commutes with the insertion
-  pub changed_through : (m : Numbered V) (k x : ℕ) (v : V) (f : V → V) → (k ≢ x) → changed (insert m x v) k f ≡ insert (changed m k f) x v
+  pub changed_through : (m : NumberedValues V) (k x : ℕ) (v : V) (f : V → V) → (k ≢ x) → changed (insert m x v) k f ≡ insert (changed m k f) x v
   changed_through m k x v f apart =
       same_numbered _ _ (λ q. elim (cases_eq q k) [
         | inl is ↦
@@ -122,7 +122,7 @@ module _ {V : Type 0} where
       ])
 
   -- a change at another number commutes with the removal
-  pub removed_changed : (m : Numbered V) (k x : ℕ) (f : V → V) → (k ≢ x) → remove (changed m k f) x ≡ changed (remove m x) k f
+  pub removed_changed : (m : NumberedValues V) (k x : ℕ) (f : V → V) → (k ≢ x) → remove (changed m k f) x ≡ changed (remove m x) k f
   removed_changed m k x f apart =
       same_numbered _ _ (λ q. elim (cases_eq q k) [
         | inl is ↦
@@ -142,7 +142,7 @@ module _ {V : Type 0} where
       ])
 
   -- a number that is removed after a change of it
-  pub removed_after_change : (m : Numbered V) (k : ℕ) (f : V → V) → remove (changed m k f) k ≡ remove m k
+  pub removed_after_change : (m : NumberedValues V) (k : ℕ) (f : V → V) → remove (changed m k f) k ≡ remove m k
   removed_after_change m k f =
       same_numbered _ _ (λ q. elim (cases_eq q k) [
         | inl is ↦ ap (get (remove (changed m k f) k)) is ∙ remove_here _ k ∙ sym (remove_here m k) ∙ ap (get (remove m k)) (sym is)
@@ -151,7 +151,7 @@ module _ {V : Type 0} where
 
 module _ {V W : Type 0} (f : V → W) where
   -- two maps agree on after the same insertion
-  pub agree_insert : (plain : Numbered V) (stored : Numbered W) (k : ℕ) (v : V) (w : W) → AgreesUnder f plain stored → w ≡ f v → AgreesUnder f (insert plain k v) (insert stored k w)
+  pub agree_insert : (plain : NumberedValues V) (stored : NumberedValues W) (k : ℕ) (v : V) (w : W) → AgreesUnder f plain stored → w ≡ f v → AgreesUnder f (insert plain k v) (insert stored k w)
   agree_insert plain stored k v w agree is q =
       elim (cases_eq q k) [
         | inl same ↦
@@ -166,7 +166,7 @@ module _ {V W : Type 0} (f : V → W) where
   mapped_twice g h (Some v) alike = ap (λ x. Some x) (alike v refl)
 
   -- and after the same change of the value that is there
-  pub agree_changed : (plain : Numbered V) (stored : Numbered W) (k : ℕ) (g : V → V) (h : W → W) → AgreesUnder f plain stored → ((v : V) → get plain k ≡ Some v → h (f v) ≡ f (g v)) → AgreesUnder f (changed plain k g) (changed stored k h)
+  pub agree_changed : (plain : NumberedValues V) (stored : NumberedValues W) (k : ℕ) (g : V → V) (h : W → W) → AgreesUnder f plain stored → ((v : V) → get plain k ≡ Some v → h (f v) ≡ f (g v)) → AgreesUnder f (changed plain k g) (changed stored k h)
   agree_changed plain stored k g h agree alike q =
       elim (cases_eq q k) [
         | inl same ↦
@@ -178,7 +178,7 @@ module _ {V W : Type 0} (f : V → W) where
       ]
 
   -- and after the same removal
-  pub agree_remove : (plain : Numbered V) (stored : Numbered W) (k : ℕ) → AgreesUnder f plain stored → AgreesUnder f (remove plain k) (remove stored k)
+  pub agree_remove : (plain : NumberedValues V) (stored : NumberedValues W) (k : ℕ) → AgreesUnder f plain stored → AgreesUnder f (remove plain k) (remove stored k)
   agree_remove plain stored k agree q =
       elim (cases_eq q k) [
         | inl same ↦

@@ -9,7 +9,7 @@ use Rattle.std.specs.BTreeMap.{insert_entry}
 use Rattle.std.specs.Ordering.{nat_cmp, eq_by_cmp, is_eq, match_ordering}
 use Rattle.std.specs.Cmp.{nat_cmp_is, ranked}
 use Rattle.number_map.specs.Slots.{with_slot}
-use Rattle.number_map.specs.Rising.{value_at, filled, numbers, IsRising}
+use Rattle.number_map.specs.Rising.{value_at, pairs_of_slots, numbers, IsRising}
 use Rattle.number_map.specs.declared.row.Slot.{Slot}
 use Rattle.number_map.proofs.NumberTests.{tied, untied}
 use Rattle.number_map.proofs.SlotLemmas.{IsBelow}
@@ -54,10 +54,10 @@ module _ {V : Type 0} where
   met number None rest none = none
   met number (Some v) rest none = ap (λ b. cond b (Some v) (value_at rest number)) (tied number number refl)
 
-  lower_missing : (number : ℕ) (slots : List (Slot V)) → IsBelow number (numbers slots) → value_at (filled slots) number ≡ None
+  lower_missing : (number : ℕ) (slots : List (Slot V)) → IsBelow number (numbers slots) → value_at (pairs_of_slots slots) number ≡ None
   lower_missing number [] below = refl
   lower_missing number (s ∷ ss) below =
-      skipped number s.number s.value (filled ss) (ap is_eq below.0) ∙ lower_missing number ss below.1
+      skipped number s.number s.value (pairs_of_slots ss) (ap is_eq below.0) ∙ lower_missing number ss below.1
 
   below_got : (number : ℕ) (slots : List (Slot V)) (at : ℕ) (slot : Slot V) → IsBelow number (numbers slots) → slice_get slots at ≡ Some slot → number < slot.number
   below_got number [] at slot below got = absurd (cc)
@@ -72,22 +72,22 @@ module _ {V : Type 0} where
   above_first s ss at slot sorted got = below_got s.number ss at slot (sorted_head nat_cmp s.number (numbers ss) sorted) got
 
   -- the number of a slot has the slot's value
-  pub found_at : (slots : List (Slot V)) (at : ℕ) (slot : Slot V) → IsSorted (numbers slots) → slice_get slots at ≡ Some slot → value_at (filled slots) slot.number ≡ slot.value
+  pub found_at : (slots : List (Slot V)) (at : ℕ) (slot : Slot V) → IsSorted (numbers slots) → slice_get slots at ≡ Some slot → value_at (pairs_of_slots slots) slot.number ≡ slot.value
   found_at [] at slot sorted got = absurd (cc)
   found_at (s ∷ ss) zero slot sorted got =
       let same : s ≡ slot = cc in
-      subst (λ (x : Slot V). value_at (with_slot s.number s.value (filled ss)) x.number ≡ x.value) same
-      (met s.number s.value (filled ss) (lower_missing s.number ss (sorted_head nat_cmp s.number (numbers ss) sorted)))
+      subst (λ (x : Slot V). value_at (with_slot s.number s.value (pairs_of_slots ss)) x.number ≡ x.value) same
+      (met s.number s.value (pairs_of_slots ss) (lower_missing s.number ss (sorted_head nat_cmp s.number (numbers ss) sorted)))
   found_at (s ∷ ss) (suc k) slot sorted got =
       let above : s.number < slot.number = above_first s ss k slot sorted got in
-      skipped slot.number s.number s.value (filled ss) (untied slot.number s.number (λ same. omega arith))
+      skipped slot.number s.number s.value (pairs_of_slots ss) (untied slot.number s.number (λ same. omega arith))
       ∙ found_at ss k slot (sorted_tail nat_cmp s.number (numbers ss) sorted) got
 
   -- a number that no slot has, has no value
-  pub missing : (slots : List (Slot V)) (number : ℕ) → ((k : ℕ) → k < length slots → (get_or (numbers slots) k 0 ≢ number)) → value_at (filled slots) number ≡ None
+  pub missing : (slots : List (Slot V)) (number : ℕ) → ((k : ℕ) → k < length slots → (get_or (numbers slots) k 0 ≢ number)) → value_at (pairs_of_slots slots) number ≡ None
   missing [] number none = refl
   missing (s ∷ ss) number none =
-      skipped number s.number s.value (filled ss) (untied number s.number (λ same. none 0 (omega arith) (sym same)))
+      skipped number s.number s.value (pairs_of_slots ss) (untied number s.number (λ same. none 0 (omega arith) (sym same)))
       ∙ missing ss number (λ k within. none (suc k) (omega arith))
 
   -- the number in a slot
@@ -106,18 +106,18 @@ module _ {V : Type 0} where
   below_slot number other None rest less all = all
   below_slot number other (Some v) rest less all = (less, all)
 
-  below_filled : (number : ℕ) (slots : List (Slot V)) → IsBelow number (numbers slots) → IsBelow number (keys_of (filled slots))
+  below_filled : (number : ℕ) (slots : List (Slot V)) → IsBelow number (numbers slots) → IsBelow number (keys_of (pairs_of_slots slots))
   below_filled number [] below = tt
-  below_filled number (s ∷ ss) below = below_slot number s.number s.value (filled ss) below.0 (below_filled number ss below.1)
+  below_filled number (s ∷ ss) below = below_slot number s.number s.value (pairs_of_slots ss) below.0 (below_filled number ss below.1)
 
   sorted_slot : (number : ℕ) (o : Option V) (rest : List (ℕ × V)) → IsBelow number (keys_of rest) → IsSorted (keys_of rest) → IsSorted (keys_of (with_slot number o rest))
   sorted_slot number None rest below sorted = sorted
   sorted_slot number (Some v) rest below sorted = sorted_cons number (keys_of rest) below sorted
 
-  pub keys_rise : (slots : List (Slot V)) → IsSorted (numbers slots) → IsSorted (keys_of (filled slots))
+  pub keys_rise : (slots : List (Slot V)) → IsSorted (numbers slots) → IsSorted (keys_of (pairs_of_slots slots))
   keys_rise [] sorted = sorted_none
   keys_rise (s ∷ ss) sorted =
-      sorted_slot s.number s.value (filled ss) (below_filled s.number ss (sorted_head nat_cmp s.number (numbers ss) sorted)) (keys_rise ss (sorted_tail nat_cmp s.number (numbers ss) sorted))
+      sorted_slot s.number s.value (pairs_of_slots ss) (below_filled s.number ss (sorted_head nat_cmp s.number (numbers ss) sorted)) (keys_rise ss (sorted_tail nat_cmp s.number (numbers ss) sorted))
 
   pub same_numbers : (slots : List (Slot V)) (at : ℕ) (old new : Slot V) → slice_get slots at ≡ Some old → new.number ≡ old.number → numbers (set slots at new) ≡ numbers slots
   same_numbers [] at old new got same = absurd (cc)
@@ -149,26 +149,26 @@ module _ {V : Type 0} where
   removed_after number other (Some v) rest apart = ap (λ b. cond b rest ((other, v) ∷ remove_entry (eq_by_cmp nat_cmp number) rest)) apart
 
   pub emptied : (slots : List (Slot V)) (at : ℕ) (slot : Slot V) → IsSorted (numbers slots) → slice_get slots at ≡ Some slot →
-      filled (set slots at (record slot { value = None })) ≡ remove_entry (eq_by_cmp nat_cmp slot.number) (filled slots)
+      pairs_of_slots (set slots at (record slot { value = None })) ≡ remove_entry (eq_by_cmp nat_cmp slot.number) (pairs_of_slots slots)
   emptied [] at slot sorted got = absurd (cc)
   emptied (s ∷ ss) zero slot sorted got =
       let same : s ≡ slot = cc in
-      subst (λ (x : Slot V). filled ss ≡ remove_entry (eq_by_cmp nat_cmp x.number) (with_slot s.number s.value (filled ss))) same
-      (sym (removed_here s.number s.value (filled ss) (lower_missing s.number ss (sorted_head nat_cmp s.number (numbers ss) sorted))))
+      subst (λ (x : Slot V). pairs_of_slots ss ≡ remove_entry (eq_by_cmp nat_cmp x.number) (with_slot s.number s.value (pairs_of_slots ss))) same
+      (sym (removed_here s.number s.value (pairs_of_slots ss) (lower_missing s.number ss (sorted_head nat_cmp s.number (numbers ss) sorted))))
   emptied (s ∷ ss) (suc k) slot sorted got =
       let above : s.number < slot.number = above_first s ss k slot sorted got in
       ap (with_slot s.number s.value) (emptied ss k slot (sorted_tail nat_cmp s.number (numbers ss) sorted) got)
-      ∙ sym (removed_after slot.number s.number s.value (filled ss) (untied slot.number s.number (λ same. omega arith)))
+      ∙ sym (removed_after slot.number s.number s.value (pairs_of_slots ss) (untied slot.number s.number (λ same. omega arith)))
 
   length_slot : (number : ℕ) (o : Option V) (rest : List (ℕ × V)) → length (with_slot number o rest) ≡ cond (is_some o) 1 0 + length rest
   length_slot number None rest = omega arith
   length_slot number (Some v) rest = omega arith
 
-  pub length_filled : (slots : List (Slot V)) → length (filled slots) ≤ length slots
+  pub length_filled : (slots : List (Slot V)) → length (pairs_of_slots slots) ≤ length slots
   length_filled [] = omega arith
   length_filled (s ∷ ss) = at_most s.value (length_filled ss)
     where
-      at_most : (o : Option V) → length (filled ss) ≤ length ss → length (with_slot s.number o (filled ss)) ≤ length (s ∷ ss)
+      at_most : (o : Option V) → length (pairs_of_slots ss) ≤ length ss → length (with_slot s.number o (pairs_of_slots ss)) ≤ length (s ∷ ss)
       at_most None less = omega arith
       at_most (Some v) less = omega arith
 
@@ -178,16 +178,16 @@ module _ {V : Type 0} where
 
   -- how the number of values changes once the slot has this value
   pub length_set : (slots : List (Slot V)) (at : ℕ) (old new : Slot V) → slice_get slots at ≡ Some old →
-      length (filled (set slots at new)) + cond (is_some old.value) 1 0 ≡ length (filled slots) + cond (is_some new.value) 1 0
+      length (pairs_of_slots (set slots at new)) + cond (is_some old.value) 1 0 ≡ length (pairs_of_slots slots) + cond (is_some new.value) 1 0
   length_set [] at old new got = absurd (cc)
   length_set (s ∷ ss) zero old new got =
       let same : s ≡ old = cc in
       let here : cond {A = ℕ} (is_some s.value) 1 0 ≡ cond (is_some old.value) 1 0 = ap (λ (x : Slot V). cond {A = ℕ} (is_some x.value) 1 0) same in
-      let sum : length (with_slot new.number new.value (filled ss)) + cond (is_some old.value) 1 0 ≡ length (with_slot s.number s.value (filled ss)) + cond (is_some new.value) 1 0
-      = omega (arith, length_slot new.number new.value (filled ss), length_slot s.number s.value (filled ss)) in
+      let sum : length (with_slot new.number new.value (pairs_of_slots ss)) + cond (is_some old.value) 1 0 ≡ length (with_slot s.number s.value (pairs_of_slots ss)) + cond (is_some new.value) 1 0
+      = omega (arith, length_slot new.number new.value (pairs_of_slots ss), length_slot s.number s.value (pairs_of_slots ss)) in
       sum
   length_set (s ∷ ss) (suc k) old new got =
-      omega (arith, length_set ss k old new got, length_slot s.number s.value (filled (set ss k new)), length_slot s.number s.value (filled ss))
+      omega (arith, length_set ss k old new got, length_slot s.number s.value (pairs_of_slots (set ss k new)), length_slot s.number s.value (pairs_of_slots ss))
 
   -- ---- a value is put
 
@@ -207,17 +207,17 @@ module _ {V : Type 0} where
       ap (λ o. match_ordering o ((number, v) ∷ (other, w) ∷ rest) ((other, v) ∷ rest) ((other, w) ∷ insert_entry nat_cmp rest number v)) (above_is number other lower)
 
   pub replaced : (slots : List (Slot V)) (at : ℕ) (slot : Slot V) (number : ℕ) (v : V) → IsSorted (numbers slots) → slice_get slots at ≡ Some slot → slot.number ≡ number →
-      filled (set slots at (record { number = number; value = Some v })) ≡ insert_entry nat_cmp (filled slots) number v
+      pairs_of_slots (set slots at (record { number = number; value = Some v })) ≡ insert_entry nat_cmp (pairs_of_slots slots) number v
   replaced [] at slot number v sorted got is = absurd (cc)
   replaced (s ∷ ss) zero slot number v sorted got is =
       let same : s ≡ slot = cc in
       let here : s.number ≡ number = ap (λ (x : Slot V). x.number) same ∙ is in
-      subst (λ (n : ℕ). (n, v) ∷ filled ss ≡ insert_entry nat_cmp (with_slot s.number s.value (filled ss)) n v) here
-      (sym (put_here s.number s.value v (filled ss) (below_filled s.number ss (sorted_head nat_cmp s.number (numbers ss) sorted))))
+      subst (λ (n : ℕ). (n, v) ∷ pairs_of_slots ss ≡ insert_entry nat_cmp (with_slot s.number s.value (pairs_of_slots ss)) n v) here
+      (sym (put_here s.number s.value v (pairs_of_slots ss) (below_filled s.number ss (sorted_head nat_cmp s.number (numbers ss) sorted))))
   replaced (s ∷ ss) (suc k) slot number v sorted got is =
       let above : s.number < slot.number = above_first s ss k slot sorted got in
       ap (with_slot s.number s.value) (replaced ss k slot number v (sorted_tail nat_cmp s.number (numbers ss) sorted) got is)
-      ∙ sym (put_after number s.number s.value v (filled ss) (omega arith))
+      ∙ sym (put_after number s.number s.value v (pairs_of_slots ss) (omega arith))
 
   -- a number above the last one is above all
   pub all_lower : (slots : List (Slot V)) (last : Slot V) (number : ℕ) → IsSorted (numbers slots) → slice_get slots (length slots - 1) ≡ Some last → last.number < number →
@@ -253,13 +253,13 @@ module _ {V : Type 0} where
   all_higher (s ∷ ss) number higher = (below_is number s.number (higher 0 (omega arith)), all_higher ss number (λ k below. higher (suc k) (omega arith)))
 
   pub inserted : (slots : List (Slot V)) (at number : ℕ) (v : V) → Parts slots at number →
-      filled (insert slots at (record { number = number; value = Some v })) ≡ insert_entry nat_cmp (filled slots) number v
+      pairs_of_slots (insert slots at (record { number = number; value = Some v })) ≡ insert_entry nat_cmp (pairs_of_slots slots) number v
   inserted slots zero number v parts =
-      sym (lower_put number v (filled slots) (below_filled number slots (all_higher slots number (λ k below. parts.higher k (omega arith) below))))
+      sym (lower_put number v (pairs_of_slots slots) (below_filled number slots (all_higher slots number (λ k below. parts.higher k (omega arith) below))))
   inserted [] (suc k) number v parts = let long = parts.within in absurd (omega arith)
   inserted (s ∷ ss) (suc k) number v parts =
       ap (with_slot s.number s.value) (inserted ss k number v (next_parts s ss k number parts))
-      ∙ sym (put_after number s.number s.value v (filled ss) (parts.lower 0 (omega arith)))
+      ∙ sym (put_after number s.number s.value v (pairs_of_slots ss) (parts.lower 0 (omega arith)))
 
   all_inserted : (P : ℕ → Type 0) (slots : List (Slot V)) (at : ℕ) (slot : Slot V) → AllByRecursion P (numbers slots) → P slot.number → AllByRecursion P (numbers (insert slots at slot))
   all_inserted P slots zero slot all one = (one, all)
@@ -275,11 +275,11 @@ module _ {V : Type 0} where
       (all_inserted (λ y. nat_cmp s.number y ≡ Less) ss k slot (sorted_head nat_cmp s.number (numbers ss) sorted) (below_is s.number slot.number (parts.lower 0 (omega arith))))
       (sorted_inserted ss k slot (sorted_tail nat_cmp s.number (numbers ss) sorted) (next_parts s ss k slot.number parts))
 
-  pub length_inserted : (slots : List (Slot V)) (at : ℕ) (slot : Slot V) → length (filled (insert slots at slot)) ≡ length (filled slots) + cond (is_some slot.value) 1 0
-  length_inserted slots zero slot = omega (arith, length_slot slot.number slot.value (filled slots))
-  length_inserted [] (suc k) slot = omega (arith, length_slot slot.number slot.value (filled {V = V} []))
+  pub length_inserted : (slots : List (Slot V)) (at : ℕ) (slot : Slot V) → length (pairs_of_slots (insert slots at slot)) ≡ length (pairs_of_slots slots) + cond (is_some slot.value) 1 0
+  length_inserted slots zero slot = omega (arith, length_slot slot.number slot.value (pairs_of_slots slots))
+  length_inserted [] (suc k) slot = omega (arith, length_slot slot.number slot.value (pairs_of_slots {V = V} []))
   length_inserted (s ∷ ss) (suc k) slot =
-      omega (arith, length_inserted ss k slot, length_slot s.number s.value (filled (insert ss k slot)), length_slot s.number s.value (filled ss))
+      omega (arith, length_inserted ss k slot, length_slot s.number s.value (pairs_of_slots (insert ss k slot)), length_slot s.number s.value (pairs_of_slots ss))
 
   -- after all others
   pub end_parts : (slots : List (Slot V)) (number : ℕ) → ((k : ℕ) → k < length slots → get_or (numbers slots) k 0 < number) → Parts slots (length slots) number
@@ -291,7 +291,7 @@ module _ {V : Type 0} where
 
   -- ---- slots without a value are dropped
 
-  pub popped : (slots : List (Slot V)) (slot : Slot V) → slot.value ≡ None → filled (slots ++ slot ∷ []) ≡ filled slots
+  pub popped : (slots : List (Slot V)) (slot : Slot V) → slot.value ≡ None → pairs_of_slots (slots ++ slot ∷ []) ≡ pairs_of_slots slots
   popped [] slot none = ap (λ o. with_slot slot.number o []) none
   popped (s ∷ ss) slot none = ap (with_slot s.number s.value) (popped ss slot none)
 
@@ -305,13 +305,13 @@ module _ {V : Type 0} where
   abbrev pub is_filled : Slot V → Bool
   is_filled slot = is_some slot.value
 
-  kept_slot : (s : Slot V) (o : Option V) → s.value ≡ o → (kept : List (Slot V)) (rest : List (ℕ × V)) → filled kept ≡ rest → filled (cond (is_some o) (s ∷ kept) kept) ≡ with_slot s.number o rest
+  kept_slot : (s : Slot V) (o : Option V) → s.value ≡ o → (kept : List (Slot V)) (rest : List (ℕ × V)) → pairs_of_slots kept ≡ rest → pairs_of_slots (cond (is_some o) (s ∷ kept) kept) ≡ with_slot s.number o rest
   kept_slot s None is kept rest same = same
-  kept_slot s (Some v) is kept rest same = ap (λ o. with_slot s.number o (filled kept)) is ∙ ap (λ es. (s.number, v) ∷ es) same
+  kept_slot s (Some v) is kept rest same = ap (λ o. with_slot s.number o (pairs_of_slots kept)) is ∙ ap (λ es. (s.number, v) ∷ es) same
 
-  pub kept_filled : (slots : List (Slot V)) → filled (filter is_filled slots) ≡ filled slots
+  pub kept_filled : (slots : List (Slot V)) → pairs_of_slots (filter is_filled slots) ≡ pairs_of_slots slots
   kept_filled [] = refl
-  kept_filled (s ∷ ss) = kept_slot s s.value refl (filter is_filled ss) (filled ss) (kept_filled ss)
+  kept_filled (s ∷ ss) = kept_slot s s.value refl (filter is_filled ss) (pairs_of_slots ss) (kept_filled ss)
 
   all_kept : (P : ℕ → Type 0) (slots : List (Slot V)) → AllByRecursion P (numbers slots) → AllByRecursion P (numbers (filter is_filled slots))
   all_kept P [] all = tt

@@ -6,7 +6,7 @@ use Rattle.std.proofs.lemmas.List.Edits.{insert_end}
 use Rattle.std.specs.List.{slice_get, insert}
 use Rattle.std.specs.BTreeMap.{insert_entry}
 use Rattle.std.specs.Ordering.{nat_cmp}
-use Rattle.number_map.specs.Rising.{value_at, filled, numbers}
+use Rattle.number_map.specs.Rising.{value_at, pairs_of_slots, numbers}
 use Rattle.number_map.specs.declared.row.Slot.{Slot}
 use Rattle.number_map.proofs.RowLemmas.{IsSorted, found_at, missing, number_got, length-numbers, length_set, same_numbers, replaced, Parts, inserted, sorted_inserted, length_inserted, end_parts}
 
@@ -62,15 +62,15 @@ module _ {V : Type 0} where
       ]
 
   pub not_found : (slots : List (Slot V)) (at number : ℕ) → IsSorted (numbers slots) → ((k : ℕ) → k < at → at_place slots k < number) → ((k : ℕ) → at ≤ k → k < length slots → number ≤ at_place slots k) →
-      ((at < length slots) × (at_place slots at ≡ number) → ⊥) → value_at (filled slots) number ≡ None
+      ((at < length slots) × (at_place slots at ≡ number) → ⊥) → value_at (pairs_of_slots slots) number ≡ None
   not_found slots at number sorted lower others lacks = missing slots number (only_there slots at number sorted lower others lacks)
 
-  pub none_above : (slots : List (Slot V)) (number : ℕ) → ((k : ℕ) → k < length slots → at_place slots k < number) → value_at (filled slots) number ≡ None
+  pub none_above : (slots : List (Slot V)) (number : ℕ) → ((k : ℕ) → k < length slots → at_place slots k < number) → value_at (pairs_of_slots slots) number ≡ None
   none_above slots number lower = missing slots number (λ k within same. let less : at_place slots k < number = lower k within in omega arith)
 
-  pub value_found : (slots : List (Slot V)) (at number : ℕ) (slot : Slot V) → IsSorted (numbers slots) → slice_get slots at ≡ Some slot → at_place slots at ≡ number → value_at (filled slots) number ≡ slot.value
+  pub value_found : (slots : List (Slot V)) (at number : ℕ) (slot : Slot V) → IsSorted (numbers slots) → slice_get slots at ≡ Some slot → at_place slots at ≡ number → value_at (pairs_of_slots slots) number ≡ slot.value
   value_found slots at number slot sorted got is =
-      ap (value_at (filled slots)) (sym is ∙ number_got slots at slot got) ∙ found_at slots at slot sorted got
+      ap (value_at (pairs_of_slots slots)) (sym is ∙ number_got slots at slot got) ∙ found_at slots at slot sorted got
 
   pub parts_of : (slots : List (Slot V)) (at number : ℕ) → IsSorted (numbers slots) → at ≤ length slots → ((k : ℕ) → k < at → at_place slots k < number) → ((k : ℕ) → at ≤ k → k < length slots → number ≤ at_place slots k) →
       ((at < length slots) × (at_place slots at ≡ number) → ⊥) → Parts slots at number
@@ -89,14 +89,14 @@ module _ {V : Type 0} where
   -- ---- a slot after all others
 
   module _ (slots : List (Slot V)) (slot : Slot V) (lower : (k : ℕ) → k < length slots → at_place slots k < slot.number) where
-    pub pushed_put : (v : V) → slot.value ≡ Some v → filled (slots ++ slot ∷ []) ≡ insert_entry nat_cmp (filled slots) slot.number v
+    pub pushed_put : (v : V) → slot.value ≡ Some v → pairs_of_slots (slots ++ slot ∷ []) ≡ insert_entry nat_cmp (pairs_of_slots slots) slot.number v
     pushed_put v is =
-        ap filled (sym (insert_end slots slot)) ∙ ap (λ (s : Slot V). filled (insert slots (length slots) s)) (is_slot slot v is)
+        ap pairs_of_slots (sym (insert_end slots slot)) ∙ ap (λ (s : Slot V). pairs_of_slots (insert slots (length slots) s)) (is_slot slot v is)
         ∙ inserted slots (length slots) slot.number v (end_parts slots slot.number lower)
 
-    pub pushed_length : is_some slot.value ≡ true → length (filled (slots ++ slot ∷ [])) ≡ length (filled slots) + 1
+    pub pushed_length : is_some slot.value ≡ true → length (pairs_of_slots (slots ++ slot ∷ [])) ≡ length (pairs_of_slots slots) + 1
     pushed_length some =
-        ap (λ ss. length (filled ss)) (sym (insert_end slots slot)) ∙ length_inserted slots (length slots) slot ∙ ap (λ b. length (filled slots) + cond b 1 0) some
+        ap (λ ss. length (pairs_of_slots ss)) (sym (insert_end slots slot)) ∙ length_inserted slots (length slots) slot ∙ ap (λ b. length (pairs_of_slots slots) + cond b 1 0) some
 
     pub pushed_sorted : IsSorted (numbers slots) → IsSorted (numbers (slots ++ slot ∷ []))
     pushed_sorted sorted =
@@ -108,16 +108,16 @@ module _ {V : Type 0} where
     number_is : old.number ≡ slot.number
     number_is = sym (number_got slots at old got) ∙ same
 
-    pub set_put : IsSorted (numbers slots) → (v : V) → slot.value ≡ Some v → filled (set slots at slot) ≡ insert_entry nat_cmp (filled slots) slot.number v
-    set_put sorted v is = ap (λ (s : Slot V). filled (set slots at s)) (is_slot slot v is) ∙ replaced slots at old slot.number v sorted got number_is
+    pub set_put : IsSorted (numbers slots) → (v : V) → slot.value ≡ Some v → pairs_of_slots (set slots at slot) ≡ insert_entry nat_cmp (pairs_of_slots slots) slot.number v
+    set_put sorted v is = ap (λ (s : Slot V). pairs_of_slots (set slots at s)) (is_slot slot v is) ∙ replaced slots at old slot.number v sorted got number_is
 
     pub set_sorted : IsSorted (numbers slots) → IsSorted (numbers (set slots at slot))
     set_sorted sorted = subst IsSorted (sym (same_numbers slots at old slot got (sym number_is))) sorted
 
-    pub set_length : is_some slot.value ≡ true → length (filled (set slots at slot)) ≡ length (filled slots) + cond (is_none old.value) 1 0
+    pub set_length : is_some slot.value ≡ true → length (pairs_of_slots (set slots at slot)) ≡ length (pairs_of_slots slots) + cond (is_none old.value) 1 0
     set_length some = by_value old.value refl
       where
-        by_value : (o : Option V) → old.value ≡ o → length (filled (set slots at slot)) ≡ length (filled slots) + cond (is_none o) 1 0
+        by_value : (o : Option V) → old.value ≡ o → length (pairs_of_slots (set slots at slot)) ≡ length (pairs_of_slots slots) + cond (is_none o) 1 0
         by_value None is =
             let weight : cond {A = ℕ} (is_some old.value) 1 0 ≡ 0 = ap (λ (x : Option V). cond {A = ℕ} (is_some x) 1 0) is in
             let new : cond {A = ℕ} (is_some slot.value) 1 0 ≡ 1 = ap (λ b. cond {A = ℕ} b 1 0) some in
@@ -130,11 +130,11 @@ module _ {V : Type 0} where
   -- ---- a slot between others
 
   module _ (slots : List (Slot V)) (at : ℕ) (slot : Slot V) (parts : Parts slots at slot.number) where
-    pub insert_put : (v : V) → slot.value ≡ Some v → filled (insert slots at slot) ≡ insert_entry nat_cmp (filled slots) slot.number v
-    insert_put v is = ap (λ (s : Slot V). filled (insert slots at s)) (is_slot slot v is) ∙ inserted slots at slot.number v parts
+    pub insert_put : (v : V) → slot.value ≡ Some v → pairs_of_slots (insert slots at slot) ≡ insert_entry nat_cmp (pairs_of_slots slots) slot.number v
+    insert_put v is = ap (λ (s : Slot V). pairs_of_slots (insert slots at s)) (is_slot slot v is) ∙ inserted slots at slot.number v parts
 
-    pub insert_length : is_some slot.value ≡ true → length (filled (insert slots at slot)) ≡ length (filled slots) + 1
-    insert_length some = length_inserted slots at slot ∙ ap (λ b. length (filled slots) + cond b 1 0) some
+    pub insert_length : is_some slot.value ≡ true → length (pairs_of_slots (insert slots at slot)) ≡ length (pairs_of_slots slots) + 1
+    insert_length some = length_inserted slots at slot ∙ ap (λ b. length (pairs_of_slots slots) + cond b 1 0) some
 
     pub insert_sorted : IsSorted (numbers slots) → IsSorted (numbers (insert slots at slot))
     insert_sorted sorted = sorted_inserted slots at slot sorted parts

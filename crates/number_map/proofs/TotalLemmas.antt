@@ -8,7 +8,7 @@ use Rattle.std.specs.Ordering.{nat_cmp, is_lt, is_eq}
 use Rattle.std.specs.Cmp.{nat_cmp_total, nat_cmp_is, ranked}
 use Rattle.std.specs.FinMap as fin
 use Rattle.std.specs.FinMap.Entries.{by_order, put, find, below_all, is_sorted}
-use Rattle.number_map.specs.Numbered.{Numbered, get, insert, remove, changed, entries, empty}
+use Rattle.number_map.specs.Numbered.{NumberedValues, get, insert, remove, changed, entries, empty}
 use Rattle.number_map.proofs.NumberedLemmas.{same_numbered, insert_here, insert_other, remove_here, remove_other, changed_Some, changed_None}
 
 from_T : (b : Bool) → T b → b ≡ true
@@ -36,7 +36,7 @@ module _ {V : Type 0} (count : V → ℕ) where
   counted None = 0
   counted (Some v) = count v
 
-  abbrev pub total : Numbered V → ℕ
+  abbrev pub total : NumberedValues V → ℕ
   total m = sum_by value (entries m)
 
   below_lower : (x y : ℕ) (es : List (ℕ × V)) → nat_cmp x y ≡ Less → below_all nat_cmp y es ≡ true → below_all nat_cmp x es ≡ true
@@ -64,7 +64,7 @@ module _ {V : Type 0} (count : V → ℕ) where
         | Greater ↦ λ p. omega (arith, sum_by-cons value e (put nat_cmp k v es), sum_by-cons value e es)
       ] refl
 
-  pub total_insert : (m : Numbered V) (k : ℕ) (v : V) → total (insert m k v) + counted (get m k) ≡ total m + count v
+  pub total_insert : (m : NumberedValues V) (k : ℕ) (v : V) → total (insert m k v) + counted (get m k) ≡ total m + count v
   total_insert m k v =
       (λ i. sum_by value (fin.entries-insert nat_cmp_total m k v i) + counted (fin.get-entries m k i))
       ∙ sum_put k v (entries m) (from_T (is_sorted nat_cmp (entries m)) (fin.entries_sorted m))
@@ -74,10 +74,10 @@ module _ {V : Type 0} (count : V → ℕ) where
       ap (sum_by value) (nil_from_length (entries (empty {X = V} {R = nat_cmp})) (sym (fin.len-entries (empty {X = V} {R = nat_cmp})) ∙ fin.len-empty nat_cmp V))
 
   -- a value that was not there
-  pub total_added : (m : Numbered V) (k : ℕ) (v : V) → get m k ≡ None → total (insert m k v) ≡ total m + count v
+  pub total_added : (m : NumberedValues V) (k : ℕ) (v : V) → get m k ≡ None → total (insert m k v) ≡ total m + count v
   total_added m k v lacks = let none : counted (get m k) ≡ 0 = ap counted lacks in omega (arith, total_insert m k v)
 
-  pub total_removed : (m : Numbered V) (k : ℕ) (v : V) → get m k ≡ Some v → total (remove m k) + count v ≡ total m
+  pub total_removed : (m : NumberedValues V) (k : ℕ) (v : V) → get m k ≡ Some v → total (remove m k) + count v ≡ total m
   total_removed m k v has =
       let again : insert (remove m k) k v ≡ m
       = same_numbered _ _ (λ q. elim (cases_eq q k) [
@@ -87,16 +87,16 @@ module _ {V : Type 0} (count : V → ℕ) where
       sym (total_added (remove m k) k v (remove_here m k)) ∙ ap total again
 
   -- a value that was there
-  pub total_changed_to : (m : Numbered V) (k : ℕ) (f : V → V) (v : V) → get m k ≡ Some v → total (changed m k f) + count v ≡ total m + count (f v)
+  pub total_changed_to : (m : NumberedValues V) (k : ℕ) (f : V → V) (v : V) → get m k ≡ Some v → total (changed m k f) + count v ≡ total m + count (f v)
   total_changed_to m k f v has =
       let was : counted (get m k) ≡ count v = ap counted has in
       let now : total (changed m k f) ≡ total (insert m k (f v)) = ap total (changed_Some m k f v has) in
       omega (arith, total_insert m k (f v))
 
-  changed_by_case : (m : Numbered V) (k : ℕ) (f : V → V) (o : Option V) → get m k ≡ o → ((v : V) → count (f v) ≡ count v) → total (changed m k f) ≡ total m
+  changed_by_case : (m : NumberedValues V) (k : ℕ) (f : V → V) (o : Option V) → get m k ≡ o → ((v : V) → count (f v) ≡ count v) → total (changed m k f) ≡ total m
   changed_by_case m k f None is same = ap total (changed_None m k f is)
   changed_by_case m k f (Some v) is same = omega (arith, total_changed_to m k f v is, same v)
 
   -- a change that doesn't change the value's count
-  pub total_changed : (m : Numbered V) (k : ℕ) (f : V → V) → ((v : V) → count (f v) ≡ count v) → total (changed m k f) ≡ total m
+  pub total_changed : (m : NumberedValues V) (k : ℕ) (f : V → V) → ((v : V) → count (f v) ≡ count v) → total (changed m k f) ≡ total m
   total_changed m k f same = changed_by_case m k f (get m k) refl same

@@ -11,9 +11,9 @@ abbrev pub value_at : {V : Type 0} → List (ℕ × V) → ℕ → Option V
 value_at entries number = lookup (eq_by_cmp nat_cmp number) entries
 
 -- the numbers that have a value, each with it
-abbrev pub filled : {V : Type 0} → List (Slot V) → List (ℕ × V)
-filled [] = []
-filled (slot ∷ slots) = with_slot slot.number slot.value (filled slots)
+abbrev pub pairs_of_slots : {V : Type 0} → List (Slot V) → List (ℕ × V)
+pairs_of_slots [] = []
+pairs_of_slots (slot ∷ slots) = with_slot slot.number slot.value (pairs_of_slots slots)
 
 -- the numbers of the slots
 abbrev pub numbers : {V : Type 0} → List (Slot V) → List ℕ
@@ -22,4 +22,4 @@ numbers slots = map (λ slot. slot.number) slots
 -- the numbers rise, and the values are counted
 pub record IsRising {V : Type 0} (slots : List (Slot V)) (count : ℕ) : Type 0 where
   pub rising : IsStrictlySortedBy nat_cmp (numbers slots)
-  pub counted : count ≡ length (filled slots)
+  pub counted : count ≡ length (pairs_of_slots slots)

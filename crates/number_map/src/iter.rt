@@ -16,11 +16,11 @@ pub struct Iter<'a, V> {
 
 impl<'a, V> Model for Iter<'a, V> {
     ghost use Rattle.std.specs.Prelude.{ℕ, List};
-    ghost use Rattle.number_map.specs.Slots.{resolved, IsFilled};
+    ghost use Rattle.number_map.specs.Slots.{pairs_of_index, IsFilled};
 
     ghost Value = { List (ℕ × V) };
 
-    ghost view = { λ it. resolved it.slots.now it.index };
+    ghost view = { λ it. pairs_of_index it.slots.now it.index };
 
     ghost invariant = { λ it. IsFilled it.slots.now it.index };
 }

@@ -48,7 +48,7 @@ impl<V> Model for NumberMap<V> {
 }
 
 impl<V: Drop> NumberMap<V> {
-    ghost use Rattle.number_map.specs.Lends.{LendsValue};
+    ghost use Rattle.number_map.specs.ValueWrites.{WritesValue};
 
     /// Returns an empty map. Allocates nothing.
     pub fn new(alloc: Global) -> Self
@@ -89,7 +89,7 @@ impl<V: Drop> NumberMap<V> {
 
     /// Returns the value at `number` for writing, if there is one. The values at other numbers stay.
     pub fn get_mut(&mut self, number: u32) -> Option<&mut V>
-        ensures* writes_back { sem 𝓛 (LendsValue V.row self.entry number result) }
+        ensures* writes_back { sem 𝓛 (WritesValue V.row self.entry number result) }
         ensures value { option_copied_mut result ≡ map.get self.old number }
     {
         let Some(&key) = self.index.get(number as u64) else {

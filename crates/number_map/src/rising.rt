@@ -26,11 +26,11 @@ pub struct RisingMap<V> {
 
 impl<V> Model for RisingMap<V> {
     ghost use Rattle.std.specs.Prelude.{ℕ, List};
-    ghost use Rattle.number_map.specs.Rising.{filled, IsRising};
+    ghost use Rattle.number_map.specs.Rising.{pairs_of_slots, IsRising};
 
     ghost Value = { List (ℕ × V) };
 
-    ghost view = { λ m. filled m.slots.items };
+    ghost view = { λ m. pairs_of_slots m.slots.items };
 
     ghost invariant = { λ m. IsRising m.slots.items m.count };
 }

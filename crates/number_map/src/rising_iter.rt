@@ -13,11 +13,11 @@ pub struct Entries<'a, V> {
 
 impl<'a, V> Model for Entries<'a, V> {
     ghost use Rattle.std.specs.Prelude.{ℕ, List};
-    ghost use Rattle.number_map.specs.Rising.{filled};
+    ghost use Rattle.number_map.specs.Rising.{pairs_of_slots};
 
     ghost Value = { List (ℕ × V) };
 
-    ghost view = { λ it. filled it.slots.now };
+    ghost view = { λ it. pairs_of_slots it.slots.now };
 }
 
 impl<'a, V> Iterator for Entries<'a, V> {

@@ -5,7 +5,7 @@ ghost use Rattle.std.specs.Prelude.{if◌then◌else◌, slice_get, slice_set, s
 ghost use Rattle.std.specs.List.Sorted.{IsStrictlySortedBy};
 ghost use Rattle.std.specs.BTreeMap.{insert_entry};
 ghost use Rattle.std.specs.Ordering.{nat_cmp};
-ghost use Rattle.number_map.specs.Rising.{value_at, filled, numbers};
+ghost use Rattle.number_map.specs.Rising.{value_at, pairs_of_slots, numbers};
 ghost use Rattle.number_map.specs.declared.row.Slot.{Slot as Stored};
 
 use std::alloc::AllocError;
@@ -77,7 +77,7 @@ pub(crate) fn place_of<V>(slots: &[Slot<V>], number: u64) -> Option<usize>
     requires { IsStrictlySortedBy nat_cmp (numbers slots.now) }
     ensures found { IfSome result
         (λ at. (at < length slots.now) × (slice_index (numbers slots.now) at ≡ number)) }
-    ensures none { IfNone result (value_at (filled slots.now) number ≡ None) }
+    ensures none { IfNone result (value_at (pairs_of_slots slots.now) number ≡ None) }
 {
     if is_above(slots, number) {
         return None;
@@ -103,10 +103,10 @@ pub(crate) fn put_slot<V: Drop>(slots: &mut Vec<Slot<V>>, slot: Slot<V>) -> Resu
     requires rising { IsStrictlySortedBy nat_cmp (numbers slots.old.items) }
     requires filled { IsTrue (is_some slot.value) }
     ensures put { (value : V) → slot.value ≡ Some value
-        → OnOk result (filled slots.new.items
-        ≡ insert_entry nat_cmp (filled slots.old.items) slot.number value) }
-    ensures counted { IfOk result (λ more. length (filled slots.new.items)
-        ≡ length (filled slots.old.items) + (if more then 1 else 0)) }
+        → OnOk result (pairs_of_slots slots.new.items
+        ≡ insert_entry nat_cmp (pairs_of_slots slots.old.items) slot.number value) }
+    ensures counted { IfOk result (λ more. length (pairs_of_slots slots.new.items)
+        ≡ length (pairs_of_slots slots.old.items) + (if more then 1 else 0)) }
     ensures rising { IsStrictlySortedBy nat_cmp (numbers slots.new.items) }
     ensures kept { OnErr result (slots.new.items ≡ slots.old.items) }
 {
@@ -136,7 +136,7 @@ pub(crate) fn take_value<V: Drop>(slots: &mut Vec<Slot<V>>, at: usize) -> Option
 // Drops slots without a value: the last ones, and all of them if half of the slots are more than those with a
 // value and `SPARE_SLOTS`.
 pub(crate) fn shorten<V: Drop>(slots: &mut Vec<Slot<V>>, count: usize)
-    ensures same { filled slots.new.items ≡ filled slots.old.items }
+    ensures same { pairs_of_slots slots.new.items ≡ pairs_of_slots slots.old.items }
     ensures rising { IsStrictlySortedBy nat_cmp (numbers slots.old.items)
         → IsStrictlySortedBy nat_cmp (numbers slots.new.items) }
 {
@@ -148,7 +148,7 @@ pub(crate) fn shorten<V: Drop>(slots: &mut Vec<Slot<V>>, count: usize)
 
 // Drops the last slots, up to one with a value.
 fn pop_vacant<V: Drop>(slots: &mut Vec<Slot<V>>)
-    ensures same { filled slots.new.items ≡ filled slots.old.items }
+    ensures same { pairs_of_slots slots.new.items ≡ pairs_of_slots slots.old.items }
     ensures rising { IsStrictlySortedBy nat_cmp (numbers slots.old.items)
         → IsStrictlySortedBy nat_cmp (numbers slots.new.items) }
 {

@@ -1,11 +1,11 @@
 -- Two maps still agree after the same change, also if what the one has depends on the number.
 use Rattle.std.proofs.Common.{◌≡◌, ℕ, Option, Some, None, option_map, inl, inr, refl, sym, ap, ◌∙◌}
 use Rattle.std.proofs.lemmas.Bool.{cases_eq}
-use Rattle.number_map.specs.Numbered.{Numbered, get, insert, remove, changed}
+use Rattle.number_map.specs.Numbered.{NumberedValues, get, insert, remove, changed}
 use Rattle.number_map.proofs.NumberedLemmas.{insert_here, insert_other, remove_here, remove_other, changed_here, changed_other}
 use Rattle.plain_tree.specs.Facts.{AgreesBy}
 
-module _ {V W : Type 0} (f : ℕ → V → W) (plain : Numbered V) (stored : Numbered W) (agree : AgreesBy f plain stored) where
+module _ {V W : Type 0} (f : ℕ → V → W) (plain : NumberedValues V) (stored : NumberedValues W) (agree : AgreesBy f plain stored) where
   pub agree_inserted : (k : ℕ) (v : V) (w : W) → w ≡ f k v → AgreesBy f (insert plain k v) (insert stored k w)
   agree_inserted k v w is q = elim (cases_eq q k) [
     | inl same ↦

@@ -8,9 +8,9 @@ use Rattle.number_map.proofs.NumberedLemmas.{len_changed, changed_here, changed_
 use Rattle.plain_tree.specs.Nodes.{Name, Node, Nodes}
 use Rattle.plain_tree.specs.BodyChanges.{without_child}
 use Rattle.plain_tree.specs.NodesByNumber.{children_in, context_in, is_named_in, is_dir_in, children, context_at, is_named, is_dir_at, entry}
-use Rattle.plain_tree.specs.Changes.{on_children, named_as, name_taken, dropped}
+use Rattle.plain_tree.specs.Changes.{on_children, named_as, without_entry_name, dropped}
 use Rattle.plain_tree.specs.Tree.{HasNames, IsTree}
-use Rattle.mount_limits.specs.declared.TheConstants.{MOST_NODES, MOST_CHILDREN}
+use Rattle.mount_limits.specs.declared.TheConstants.{MAX_NODES, MAX_CHILDREN}
 use Rattle.plain_tree.proofs.ReadLemmas.{read_changed}
 use Rattle.plain_tree.proofs.EditLemmas.{edit_context, edit_named, edit_dir, edit_there, edit_others, taken_children, taken_names, taken_count, taken_from, taken_kept}
 use Rattle.plain_tree.proofs.ReachedLemmas.{childless, reached_beside}
@@ -20,7 +20,7 @@ module _ (nodes : Nodes) (d : ℕ) (name : Name) (x : ℕ) where
   after = dropped nodes d name x
 
   abbrev taken : Nodes
-  taken = name_taken nodes d name
+  taken = without_entry_name nodes d name
 
   pub dropped_children : (q : ℕ) → children after q ≡ children taken q
   dropped_children = read_changed children_in taken x (named_as false) (λ v. refl)
@@ -94,9 +94,9 @@ module _ (nodes : Nodes) (d : ℕ) (name : Name) (x : ℕ) where
           (tree.reached q (sym (dropped_others q differ) ∙ named));
       room = record {
         below = λ q there. tree.room.below q (sym (dropped_there q) ∙ there);
-        few_nodes = subst (λ n. n ≤ MOST_NODES) (sym (len_changed taken x (named_as false) ∙ len_changed nodes d (on_children (without_child name)))) tree.room.few_nodes;
+        few_nodes = subst (λ n. n ≤ MAX_NODES) (sym (len_changed taken x (named_as false) ∙ len_changed nodes d (on_children (without_child name)))) tree.room.few_nodes;
         few_children = λ q.
             let fewer = taken_count nodes d name q in let few = tree.room.few_children q in
-            subst (λ cs. length cs ≤ MOST_CHILDREN) (sym (dropped_children q)) (omega arith);
+            subst (λ cs. length cs ≤ MAX_CHILDREN) (sym (dropped_children q)) (omega arith);
       };
     }

@@ -9,9 +9,9 @@ use Rattle.number_map.proofs.NumberedLemmas.{len_changed, changed_other}
 use Rattle.plain_tree.specs.Nodes.{Name, Body, Dir, File, Link, Node, Nodes, children_of, is_dir}
 use Rattle.plain_tree.specs.BodyChanges.{with_contents}
 use Rattle.plain_tree.specs.NodesByNumber.{children_in, context_in, is_named_in, is_dir_in, children, context_at, is_named, is_dir_at, entry}
-use Rattle.plain_tree.specs.Changes.{on_contents, with_context, written, encrypted}
+use Rattle.plain_tree.specs.Changes.{on_contents, with_context, written, with_node_context}
 use Rattle.plain_tree.specs.Tree.{HasNames, IsTree}
-use Rattle.mount_limits.specs.declared.TheConstants.{MOST_NODES, MOST_CHILDREN}
+use Rattle.mount_limits.specs.declared.TheConstants.{MAX_NODES, MAX_CHILDREN}
 use Rattle.plain_tree.proofs.ReadLemmas.{read_changed}
 use Rattle.plain_tree.proofs.ReachedLemmas.{reached_kept}
 
@@ -62,8 +62,8 @@ module _ (nodes : Nodes) (k : ℕ) (f : Node → Node) (leaves : Leaves f) where
     reached = λ q named. reached_kept nodes after (λ e n z found. edited_entry e n ∙ found) (tree.reached q (sym (edited_named q) ∙ named));
     room = record {
       below = λ q there. tree.room.below q (sym (edited_there q) ∙ there);
-      few_nodes = subst (λ n. n ≤ MOST_NODES) (sym (len_changed nodes k f)) tree.room.few_nodes;
-      few_children = λ q. subst (λ cs. length cs ≤ MOST_CHILDREN) (sym (edited_children q)) (tree.room.few_children q);
+      few_nodes = subst (λ n. n ≤ MAX_NODES) (sym (len_changed nodes k f)) tree.room.few_nodes;
+      few_children = λ q. subst (λ cs. length cs ≤ MAX_CHILDREN) (sym (edited_children q)) (tree.room.few_children q);
     };
   }
 
@@ -91,7 +91,7 @@ pub written_tree : (nodes : Nodes) (next x : ℕ) (f : List ℕ → List ℕ) �
 written_tree nodes next x f tree =
     edited_tree nodes x (on_contents f) (leaves_contents f) next tree (read_changed context_in nodes x (on_contents f) (λ v. refl) 0)
 
-pub encrypted_tree : (nodes : Nodes) (next x : ℕ) (context : Context) → IsTree nodes next → (x ≢ 0) → IsTree (encrypted nodes x context) next
+pub encrypted_tree : (nodes : Nodes) (next x : ℕ) (context : Context) → IsTree nodes next → (x ≢ 0) → IsTree (with_node_context nodes x context) next
 encrypted_tree nodes next x context tree differ =
     edited_tree nodes x (with_context context) (leaves_context context) next tree
     (ap context_in (changed_other nodes x (with_context context) 0 (λ same. differ (sym same))))

@@ -13,7 +13,7 @@ use Rattle.plain_tree.specs.NodesByNumber.{children_in, context_in, is_named_in,
 use Rattle.plain_tree.specs.Changes.{first_nodes}
 use Rattle.plain_tree.specs.Tree.{IsReached, IsTree}
 use Rattle.plain_tree.specs.Seals.{Texts, IsSealed}
-use Rattle.mount_limits.specs.declared.TheConstants.{MOST_CHILDREN}
+use Rattle.mount_limits.specs.declared.TheConstants.{MAX_CHILDREN}
 
 abbrev none_yet : Nodes
 none_yet = empty
@@ -85,7 +85,7 @@ first_tree = record {
     few_nodes =
         let one : len first_nodes ≡ len none_yet + 1 = len_added empty 0 root (get-empty nat_cmp 0) in
         omega (arith, one, fin.len-empty nat_cmp Node);
-    few_children = λ q. subst (λ cs. length cs ≤ MOST_CHILDREN) (sym (first_children q)) (omega arith);
+    few_children = λ q. subst (λ cs. length cs ≤ MAX_CHILDREN) (sym (first_children q)) (omega arith);
   };
 }
 

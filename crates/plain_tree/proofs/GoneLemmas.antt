@@ -7,23 +7,23 @@ use Rattle.number_map.specs.Numbered.{get, len}
 use Rattle.number_map.proofs.NumberedLemmas.{len_removed, remove_same, remove_here, remove_other}
 use Rattle.plain_tree.specs.Nodes.{Name, Node, Nodes}
 use Rattle.plain_tree.specs.NodesByNumber.{children_in, context_in, is_named_in, is_dir_in, children, is_named, entry}
-use Rattle.plain_tree.specs.Changes.{gone}
+use Rattle.plain_tree.specs.Changes.{without_node}
 use Rattle.plain_tree.specs.Tree.{HasNames, IsTree}
-use Rattle.mount_limits.specs.declared.TheConstants.{MOST_CHILDREN}
+use Rattle.mount_limits.specs.declared.TheConstants.{MAX_CHILDREN}
 use Rattle.plain_tree.proofs.ReadLemmas.{read_removed}
 use Rattle.plain_tree.proofs.ReachedLemmas.{reached_kept}
 
 -- there are no more nodes than before
-pub gone_count : (nodes : Nodes) (x : ℕ) → len (gone nodes x) ≤ len nodes
+pub gone_count : (nodes : Nodes) (x : ℕ) → len (without_node nodes x) ≤ len nodes
 gone_count nodes x = by_case (get nodes x) refl
   where
-    by_case : (o : Option Node) → get nodes x ≡ o → len (gone nodes x) ≤ len nodes
-    by_case None is = let same : len (gone nodes x) ≡ len nodes = ap len (remove_same nodes x is) in omega arith
-    by_case (Some v) is = let fewer : len (gone nodes x) ≡ len nodes - 1 = len_removed nodes x v is in omega arith
+    by_case : (o : Option Node) → get nodes x ≡ o → len (without_node nodes x) ≤ len nodes
+    by_case None is = let same : len (without_node nodes x) ≡ len nodes = ap len (remove_same nodes x is) in omega arith
+    by_case (Some v) is = let fewer : len (without_node nodes x) ≡ len nodes - 1 = len_removed nodes x v is in omega arith
 
 module _ (nodes : Nodes) (next x : ℕ) (tree : IsTree nodes next) (nameless : is_named nodes x ≡ false) where
   abbrev after : Nodes
-  after = gone nodes x
+  after = without_node nodes x
 
   pub gone_children : (q : ℕ) → children after q ≡ children nodes q
   gone_children = read_removed children_in nodes x (sym (tree.names.nameless x nameless))
@@ -57,7 +57,7 @@ module _ (nodes : Nodes) (next x : ℕ) (tree : IsTree nodes next) (nameless : i
     nameless = λ q none. gone_children q ∙ tree.names.nameless q (sym (gone_named q) ∙ none);
   }
 
-  pub gone_tree : IsTree (gone nodes x) next
+  pub gone_tree : IsTree (without_node nodes x) next
   gone_tree = record {
     root = record {
       named = gone_named 0 ∙ tree.root.named;
@@ -69,6 +69,6 @@ module _ (nodes : Nodes) (next x : ℕ) (tree : IsTree nodes next) (nameless : i
     room = record {
       below = λ q there. tree.room.below q (still_there q there);
       few_nodes = let fewer = gone_count nodes x in let few = tree.room.few_nodes in omega arith;
-      few_children = λ q. subst (λ cs. length cs ≤ MOST_CHILDREN) (sym (gone_children q)) (tree.room.few_children q);
+      few_children = λ q. subst (λ cs. length cs ≤ MAX_CHILDREN) (sym (gone_children q)) (tree.room.few_children q);
     };
   }

@@ -8,16 +8,16 @@ use Rattle.number_map.proofs.NumberedLemmas.{insert_here, insert_other, len_adde
 use Rattle.plain_tree.specs.Nodes.{Name, Node, Nodes}
 use Rattle.plain_tree.specs.BodyChanges.{with_child}
 use Rattle.plain_tree.specs.NodesByNumber.{children_in, context_in, is_named_in, is_dir_in, children, is_named, is_dir_at, entry}
-use Rattle.plain_tree.specs.Changes.{on_children, name_put, made}
-use Rattle.plain_tree.specs.Tree.{IsReached, HasRoot, HasRoom, IsTree}
+use Rattle.plain_tree.specs.Changes.{on_children, with_name, with_new_node}
+use Rattle.plain_tree.specs.Tree.{IsReached, HasRoot, HasSpace, IsTree}
 use Rattle.plain_tree.specs.Laws.{IsNew, CanBeMade}
-use Rattle.mount_limits.specs.declared.TheConstants.{MOST_CHILDREN}
+use Rattle.mount_limits.specs.declared.TheConstants.{MAX_CHILDREN}
 use Rattle.plain_tree.proofs.ReadLemmas.{read_inserted}
 use Rattle.plain_tree.proofs.EditLemmas.{edit_context, edit_named, edit_dir, edit_there, edit_others, put_here, put_kept, put_from, put_apart_names, put_count}
 use Rattle.plain_tree.proofs.ReachedLemmas.{reached_named, reached_kept}
 
 -- a number that is not below next has no node
-pub next_free : (nodes : Nodes) (next : ℕ) → HasRoom nodes next → get nodes next ≡ None
+pub next_free : (nodes : Nodes) (next : ℕ) → HasSpace nodes next → get nodes next ≡ None
 next_free nodes next room = by_case (get nodes next) refl
   where
     by_case : (o : Option Node) → get nodes next ≡ o → o ≡ None
@@ -39,25 +39,25 @@ module _ (nodes : Nodes) (d : ℕ) (name : Name) (x : ℕ) (v : Node) (lacks : g
       let some : is_some (get nodes d) ≡ true = there_from_dir nodes d dir in
       absurd (cc)
 
-  pub still_free : get (name_put nodes d name x) x ≡ None
+  pub still_free : get (with_name nodes d name x) x ≡ None
   still_free = changed_other nodes d (on_children (with_child name x)) x new_elsewhere ∙ lacks
 
   -- what is read of each node, if the new one reads as none
-  pub made_reads : {A : Type 0} (read : Option Node → A) → read (Some v) ≡ read None → (q : ℕ) → read (get (made nodes d name x v) q) ≡ read (get (name_put nodes d name x) q)
-  made_reads read same q = read_inserted read (name_put nodes d name x) x v (same ∙ ap read (sym still_free)) q
+  pub made_reads : {A : Type 0} (read : Option Node → A) → read (Some v) ≡ read None → (q : ℕ) → read (get (with_new_node nodes d name x v) q) ≡ read (get (with_name nodes d name x) q)
+  made_reads read same q = read_inserted read (with_name nodes d name x) x v (same ∙ ap read (sym still_free)) q
 
-  new_here : get (made nodes d name x v) x ≡ Some v
-  new_here = insert_here (name_put nodes d name x) x v
+  new_here : get (with_new_node nodes d name x v) x ≡ Some v
+  new_here = insert_here (with_name nodes d name x) x v
 
-  pub made_other : (q : ℕ) → (q ≢ x) → get (made nodes d name x v) q ≡ get (name_put nodes d name x) q
-  made_other q differ = insert_other (name_put nodes d name x) x v q differ
+  pub made_other : (q : ℕ) → (q ≢ x) → get (with_new_node nodes d name x v) q ≡ get (with_name nodes d name x) q
+  made_other q differ = insert_other (with_name nodes d name x) x v q differ
 
 module _ (nodes : Nodes) (next d : ℕ) (name : Name) (v : Node) (tree : IsTree nodes next) (can : CanBeMade nodes d name) (new : IsNew v) where
   abbrev after : Nodes
-  after = made nodes d name next v
+  after = with_new_node nodes d name next v
 
   abbrev put : Nodes
-  put = name_put nodes d name next
+  put = with_name nodes d name next
 
   lacks : get nodes next ≡ None
   lacks = next_free nodes next tree.room
@@ -161,16 +161,16 @@ module _ (nodes : Nodes) (next d : ℕ) (name : Name) (v : Node) (tree : IsTree 
   len_after : len after ≡ len nodes + 1
   len_after = len_added put next v (still_free nodes d name next v lacks can.dir) ∙ ap (λ n. n + 1) (len_changed nodes d (on_children (with_child name next)))
 
-  count_after : (q : ℕ) → length (children after q) ≤ MOST_CHILDREN
+  count_after : (q : ℕ) → length (children after q) ≤ MAX_CHILDREN
   count_after q = elim (cases_eq q d) [
     | inl is ↦
-        let here : length (children put d) ≤ MOST_CHILDREN = let few = can.few_children in omega (arith, put_count nodes d name next can.dir) in
-        subst (λ cs. length cs ≤ MOST_CHILDREN) (sym (children_after q ∙ ap (children put) is)) here
+        let here : length (children put d) ≤ MAX_CHILDREN = let few = can.few_children in omega (arith, put_count nodes d name next can.dir) in
+        subst (λ cs. length cs ≤ MAX_CHILDREN) (sym (children_after q ∙ ap (children put) is)) here
     | inr differ ↦
-        subst (λ cs. length cs ≤ MOST_CHILDREN) (sym (children_after q ∙ edit_others nodes d (with_child name next) q differ)) (tree.room.few_children q)
+        subst (λ cs. length cs ≤ MAX_CHILDREN) (sym (children_after q ∙ edit_others nodes d (with_child name next) q differ)) (tree.room.few_children q)
   ]
 
-  pub made_tree : IsTree (made nodes d name next v) (next + 1)
+  pub made_tree : IsTree (with_new_node nodes d name next v) (next + 1)
   made_tree = record {
     root = root_after;
     names = record { leads = leads_after; once = once_after; distinct = distinct_after; nameless = nameless_after };

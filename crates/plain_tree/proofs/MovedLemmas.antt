@@ -6,10 +6,10 @@ use Rattle.number_map.proofs.NumberedLemmas.{len_changed}
 use Rattle.plain_tree.specs.Nodes.{Name, Nodes}
 use Rattle.plain_tree.specs.BodyChanges.{with_child, without_child}
 use Rattle.plain_tree.specs.NodesByNumber.{children, context_at, is_named, is_dir_at, entry}
-use Rattle.plain_tree.specs.Changes.{on_children, name_taken, moved}
+use Rattle.plain_tree.specs.Changes.{on_children, without_entry_name, moved}
 use Rattle.plain_tree.specs.Tree.{IsReached, IsTree}
 use Rattle.plain_tree.specs.Laws.{CanBeMoved}
-use Rattle.mount_limits.specs.declared.TheConstants.{MOST_NODES, MOST_CHILDREN}
+use Rattle.mount_limits.specs.declared.TheConstants.{MAX_NODES, MAX_CHILDREN}
 use Rattle.plain_tree.proofs.EditLemmas.{edit_context, edit_named, edit_dir, edit_there, edit_others, taken_names, taken_count, taken_fewer, taken_from, taken_kept, put_here, put_kept, put_from, put_apart_names, put_count}
 use Rattle.plain_tree.proofs.ReachedLemmas.{childless, reached_named, reached_anyhow, reached_outside, reached_again}
 
@@ -18,7 +18,7 @@ module _ (nodes : Nodes) (d : ℕ) (name : Name) (to : ℕ) (new_name : Name) (x
   after = moved nodes d name to new_name x
 
   abbrev taken : Nodes
-  taken = name_taken nodes d name
+  taken = without_entry_name nodes d name
 
   pub moved_context : (q : ℕ) → context_at after q ≡ context_at nodes q
   moved_context q = edit_context taken to (with_child new_name x) q ∙ edit_context nodes d (without_child name) q
@@ -101,15 +101,15 @@ module _ (nodes : Nodes) (d : ℕ) (name : Name) (to : ℕ) (new_name : Name) (x
     reached_x : IsReached after x
     reached_x = IsReached.step to new_name x moved_here (reached_outside nodes after x moved_kept can.reached)
 
-    count_after : (q : ℕ) → length (children after q) ≤ MOST_CHILDREN
+    count_after : (q : ℕ) → length (children after q) ≤ MAX_CHILDREN
     count_after q = elim (cases_eq q to) [
-      | inl is ↦ subst (λ y. length (children after y) ≤ MOST_CHILDREN) (sym is) here
+      | inl is ↦ subst (λ y. length (children after y) ≤ MAX_CHILDREN) (sym is) here
       | inr differ ↦
           let fewer = taken_count nodes d name q in let few = tree.room.few_children q in
-          subst (λ cs. length cs ≤ MOST_CHILDREN) (sym (edit_others taken to (with_child new_name x) q differ)) (omega arith)
+          subst (λ cs. length cs ≤ MAX_CHILDREN) (sym (edit_others taken to (with_child new_name x) q differ)) (omega arith)
     ]
       where
-        here : length (children after to) ≤ MOST_CHILDREN
+        here : length (children after to) ≤ MAX_CHILDREN
         here = elim (cases_eq to d) [
           | inl same ↦
               let one : length (children taken to) + 1 ≡ length (children nodes to)
@@ -138,7 +138,7 @@ module _ (nodes : Nodes) (d : ℕ) (name : Name) (to : ℕ) (new_name : Name) (x
       reached = λ q named. reached_again nodes after x moved_kept reached_x (tree.reached q (sym (moved_named q) ∙ named));
       room = record {
         below = λ q there. tree.room.below q (sym (moved_there q) ∙ there);
-        few_nodes = subst (λ n. n ≤ MOST_NODES) (sym moved_len) tree.room.few_nodes;
+        few_nodes = subst (λ n. n ≤ MAX_NODES) (sym moved_len) tree.room.few_nodes;
         few_children = count_after;
       };
     }

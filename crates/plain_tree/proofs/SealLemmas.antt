@@ -7,7 +7,7 @@ use Rattle.policy_ctx.specs.declared.policy.Context.{Context}
 use Rattle.number_map.proofs.NumberedLemmas.{changed_other}
 use Rattle.plain_tree.specs.Nodes.{Name, Children, Nodes}
 use Rattle.plain_tree.specs.NodesByNumber.{context_in, children, context_at, policy_at, entry}
-use Rattle.plain_tree.specs.Changes.{on_contents, with_context, written, encrypted}
+use Rattle.plain_tree.specs.Changes.{on_contents, with_context, written, with_node_context}
 use Rattle.plain_tree.specs.Seals.{Texts, has_text, entry_by_text, IsSealed}
 use Rattle.plain_tree.proofs.ChildLemmas.{itself, same_name, other_name, cases_name}
 use Rattle.plain_tree.proofs.ReadLemmas.{read_changed}
@@ -67,9 +67,9 @@ module _ (texts : Texts) (nodes : Nodes) where
   pub no_other_text : (d : ℕ) (context : Context) (text : List ℕ) (a : Name) (y : ℕ) → has_text texts nodes d context text ≡ false → entry nodes d a ≡ Some y → (texts d context a ≢ text)
   no_other_text d context text a y none found = no_clash (texts d context) text (children nodes d) a y none found
 
-  pub texts_lead : (d : ℕ) (context : Context) (name : Name) (x : ℕ) → IsSealed texts nodes → context_at nodes d ≡ Some context → entry nodes d name ≡ Some x
+  pub texts_resolve : (d : ℕ) (context : Context) (name : Name) (x : ℕ) → IsSealed texts nodes → context_at nodes d ≡ Some context → entry nodes d name ≡ Some x
       → entry_by_text texts nodes d context (texts d context name) ≡ Some x
-  texts_lead d context name x is has found =
+  texts_resolve d context name x is has found =
       text_leads (texts d context) (children nodes d) name x found
       (λ a there same. let y = some_of (lookup (bytes_eq a) (children nodes d)) there in is.apart d name a x y.0 context has found y.1 same)
 
@@ -93,15 +93,15 @@ module _ (texts : Texts) (nodes : Nodes) where
       }
 
   module _ (x : ℕ) (given : Context) (plain : context_at nodes x ≡ None) (none : children nodes x ≡ []) where
-    entries : (q : ℕ) (n : Name) → entry (encrypted nodes x given) q n ≡ entry nodes q n
+    entries : (q : ℕ) (n : Name) → entry (with_node_context nodes x given) q n ≡ entry nodes q n
     entries = edited_entry nodes x (with_context given) (leaves_context given)
 
     -- a directory with an entry has the context that it had
-    context_was : (d : ℕ) (n : Name) (z : ℕ) (context : Context) → entry nodes d n ≡ Some z → context_at (encrypted nodes x given) d ≡ Some context → context_at nodes d ≡ Some context
+    context_was : (d : ℕ) (n : Name) (z : ℕ) (context : Context) → entry nodes d n ≡ Some z → context_at (with_node_context nodes x given) d ≡ Some context → context_at nodes d ≡ Some context
     context_was d n z context found has =
         sym (ap context_in (changed_other nodes x (with_context given) d (λ same. childless nodes x n z none (ap (λ y. entry nodes y n) (sym same) ∙ found)))) ∙ has
 
-    pub encrypted_sealed : IsSealed texts nodes → IsSealed texts (encrypted nodes x given)
+    pub encrypted_sealed : IsSealed texts nodes → IsSealed texts (with_node_context nodes x given)
     encrypted_sealed is = record {
       inherits = λ d n z context has found.
           let led : entry nodes d n ≡ Some z = sym (entries d n) ∙ found in

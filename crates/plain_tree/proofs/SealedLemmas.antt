@@ -5,7 +5,7 @@ use Rattle.policy_ctx.specs.declared.policy.Context.{Context}
 use Rattle.plain_tree.specs.Nodes.{Name, Node, Nodes}
 use Rattle.plain_tree.specs.BodyChanges.{with_child}
 use Rattle.plain_tree.specs.NodesByNumber.{children_in, context_in, children, context_at, policy_at, is_named, entry}
-use Rattle.plain_tree.specs.Changes.{made, dropped, gone, moved}
+use Rattle.plain_tree.specs.Changes.{with_new_node, dropped, without_node, moved}
 use Rattle.plain_tree.specs.Tree.{IsTree}
 use Rattle.plain_tree.specs.Laws.{IsNew, CanBeMade, CanBeMoved}
 use Rattle.plain_tree.specs.Seals.{Texts, IsSealed}
@@ -26,15 +26,15 @@ module _ (texts : Texts) (nodes : Nodes) (next : ℕ) (tree : IsTree nodes next)
 
   module _ (d : ℕ) (name : Name) (v : Node) (can : CanBeMade nodes d name) (new : IsNew v) (fits : FitsInto texts nodes d name v) where
     -- a directory with an entry, and a node with an entry, have the context that they had
-    context_before : (q : ℕ) → (q ≢ next) → context_at (made nodes d name next v) q ≡ context_at nodes q
+    context_before : (q : ℕ) → (q ≢ next) → context_at (with_new_node nodes d name next v) q ≡ context_at nodes q
     context_before = made_before nodes next d name v tree can new context_in (edit_context nodes d (with_child name next))
 
-    dir_differs : (q : ℕ) (n : Name) (z : ℕ) → entry (made nodes d name next v) q n ≡ Some z → (q ≢ next)
+    dir_differs : (q : ℕ) (n : Name) (z : ℕ) → entry (with_new_node nodes d name next v) q n ≡ Some z → (q ≢ next)
     dir_differs q n z found same =
-        childless (made nodes d name next v) q n z
-        (ap (children (made nodes d name next v)) same ∙ ap children_in (made_here nodes next d name v tree can new) ∙ new.empty) found
+        childless (with_new_node nodes d name next v) q n z
+        (ap (children (with_new_node nodes d name next v)) same ∙ ap children_in (made_here nodes next d name v tree can new) ∙ new.empty) found
 
-    pub made_sealed : IsSealed texts (made nodes d name next v)
+    pub made_sealed : IsSealed texts (with_new_node nodes d name next v)
     made_sealed = record {
       inherits = λ q n z context has found.
           let was : context_at nodes q ≡ Some context = sym (context_before q (dir_differs q n z found)) ∙ has in
@@ -43,7 +43,7 @@ module _ (texts : Texts) (nodes : Nodes) (next : ℕ) (tree : IsTree nodes next)
                 ap (option_map (λ c. c.policy)) (context_before z (λ same. made_unled nodes next d name v tree can new q n (led ∙ ap (λ y. Some y) same)))
                 ∙ is.inherits q n z context was led
             | inr here ↦
-                ap (λ y. policy_at (made nodes d name next v) y) here.2
+                ap (λ y. policy_at (with_new_node nodes d name next v) y) here.2
                 ∙ ap (λ o. option_map (λ c. c.policy) (context_in o)) (made_here nodes next d name v tree can new)
                 ∙ fits.inherits context (ap (context_at nodes) (sym here.0) ∙ was)
           ];
@@ -84,15 +84,15 @@ module _ (texts : Texts) (nodes : Nodes) (next : ℕ) (tree : IsTree nodes next)
   -- ---- gone
 
   module _ (x : ℕ) (nameless : is_named nodes x ≡ false) where
-    led_before : (q : ℕ) (n : Name) (z : ℕ) → entry (gone nodes x) q n ≡ Some z → entry nodes q n ≡ Some z
+    led_before : (q : ℕ) (n : Name) (z : ℕ) → entry (without_node nodes x) q n ≡ Some z → entry nodes q n ≡ Some z
     led_before q n z found = sym (gone_entry nodes next x tree nameless q n) ∙ found
 
-    same_dir : (q : ℕ) (n : Name) (z : ℕ) → entry nodes q n ≡ Some z → context_at (gone nodes x) q ≡ context_at nodes q
+    same_dir : (q : ℕ) (n : Name) (z : ℕ) → entry nodes q n ≡ Some z → context_at (without_node nodes x) q ≡ context_at nodes q
     same_dir q n z led =
         ap context_in (gone_others nodes next x tree nameless q
         (λ same. childless nodes q n z (ap (children nodes) same ∙ tree.names.nameless x nameless) led))
 
-    pub gone_sealed : IsSealed texts (gone nodes x)
+    pub gone_sealed : IsSealed texts (without_node nodes x)
     gone_sealed = record {
       inherits = λ q n z context has found.
           let led : entry nodes q n ≡ Some z = led_before q n z found in

@@ -22,11 +22,11 @@ with_context context v = record v { context = Some context }
 
 -- ---- the two edits of a directory
 
-abbrev pub name_put : Nodes → ℕ → Name → ℕ → Nodes
-name_put nodes d name x = changed nodes d (on_children (with_child name x))
+abbrev pub with_name : Nodes → ℕ → Name → ℕ → Nodes
+with_name nodes d name x = changed nodes d (on_children (with_child name x))
 
-abbrev pub name_taken : Nodes → ℕ → Name → Nodes
-name_taken nodes d name = changed nodes d (on_children (without_child name))
+abbrev pub without_entry_name : Nodes → ℕ → Name → Nodes
+without_entry_name nodes d name = changed nodes d (on_children (without_child name))
 
 -- ---- the kinds of change
 
@@ -35,25 +35,25 @@ abbrev pub first_nodes : Nodes
 first_nodes = insert empty 0 (record { named = true; context = None; body = Dir [] })
 
 -- node x is added, and the directory's name resolves to it
-abbrev pub made : Nodes → ℕ → Name → ℕ → Node → Nodes
-made nodes d name x v = insert (name_put nodes d name x) x v
+abbrev pub with_new_node : Nodes → ℕ → Name → ℕ → Node → Nodes
+with_new_node nodes d name x v = insert (with_name nodes d name x) x v
 
 -- the directory's name for x goes, and x has none from then on
 abbrev pub dropped : Nodes → ℕ → Name → ℕ → Nodes
-dropped nodes d name x = changed (name_taken nodes d name) x (named_as false)
+dropped nodes d name x = changed (without_entry_name nodes d name) x (named_as false)
 
 -- node x goes
-abbrev pub gone : Nodes → ℕ → Nodes
-gone nodes x = remove nodes x
+abbrev pub without_node : Nodes → ℕ → Nodes
+without_node nodes x = remove nodes x
 
 -- the name is removed from the one directory, and the new name in the other, or in the same, resolves to x
 abbrev pub moved : Nodes → ℕ → Name → ℕ → Name → ℕ → Nodes
-moved nodes d name to new_name x = name_put (name_taken nodes d name) to new_name x
+moved nodes d name to new_name x = with_name (without_entry_name nodes d name) to new_name x
 
 -- a file's contents change
 abbrev pub written : Nodes → ℕ → (List ℕ → List ℕ) → Nodes
 written nodes x f = changed nodes x (on_contents f)
 
 -- a node gets its policy and nonce
-abbrev pub encrypted : Nodes → ℕ → Context → Nodes
-encrypted nodes x context = changed nodes x (with_context context)
+abbrev pub with_node_context : Nodes → ℕ → Context → Nodes
+with_node_context nodes x context = changed nodes x (with_context context)

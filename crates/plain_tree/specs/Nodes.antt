@@ -2,7 +2,7 @@
 -- before any encryption.
 use Rattle.std.specs.Prelude.{ℕ, Bool, true, false, List, [], Option}
 use Rattle.policy_ctx.specs.declared.policy.Context.{Context}
-use Rattle.number_map.specs.Numbered.{Numbered}
+use Rattle.number_map.specs.Numbered.{NumberedValues}
 
 abbrev pub Name : Type 0
 Name = List ℕ
@@ -25,7 +25,7 @@ pub record Node : Type 0 where
   pub body : Body
 
 abbrev pub Nodes : Type 0
-Nodes = Numbered Node
+Nodes = NumberedValues Node
 
 -- only a directory has entries, and only a file has contents
 abbrev pub children_of : Body → Children

@@ -6,7 +6,7 @@ use Rattle.std.specs.Str.{bytes_eq}
 use Rattle.number_map.specs.Numbered.{get, len}
 use Rattle.plain_tree.specs.Nodes.{Name, Nodes}
 use Rattle.plain_tree.specs.NodesByNumber.{children, context_at, is_named, is_dir_at, entry}
-use Rattle.mount_limits.specs.declared.TheConstants.{MOST_NODES, MOST_CHILDREN}
+use Rattle.mount_limits.specs.declared.TheConstants.{MAX_NODES, MAX_CHILDREN}
 
 -- reached from the root by names
 pub data IsReached (nodes : Nodes) : ℕ → Type 0 where
@@ -36,13 +36,13 @@ pub record HasNames (nodes : Nodes) : Type 0 where
   pub nameless : (x : ℕ) → is_named nodes x ≡ false → children nodes x ≡ []
 
 -- the numbers are below next, and there are no more nodes, and entries of a directory, than may be
-pub record HasRoom (nodes : Nodes) (next : ℕ) : Type 0 where
+pub record HasSpace (nodes : Nodes) (next : ℕ) : Type 0 where
   pub below : (x : ℕ) → is_some (get nodes x) ≡ true → x < next
-  pub few_nodes : len nodes ≤ MOST_NODES
-  pub few_children : (d : ℕ) → length (children nodes d) ≤ MOST_CHILDREN
+  pub few_nodes : len nodes ≤ MAX_NODES
+  pub few_children : (d : ℕ) → length (children nodes d) ≤ MAX_CHILDREN
 
 pub record IsTree (nodes : Nodes) (next : ℕ) : Type 0 where
   pub root : HasRoot nodes
   pub names : HasNames nodes
   pub reached : (x : ℕ) → is_named nodes x ≡ true → IsReached nodes x
-  pub room : HasRoom nodes next
+  pub room : HasSpace nodes next

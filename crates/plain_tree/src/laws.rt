@@ -33,8 +33,8 @@ pub fn changes_keep_seals()
 {}
 
 /// In a sealed tree the text of a name resolves to the node that the name resolves to.
-pub fn texts_lead()
-    ensures { seal.TextsLead }
+pub fn texts_resolve()
+    ensures { seal.TextsResolve }
 {}
 
 /// Entries with their names in stored form are searched and edited as the plain ones are, whatever the

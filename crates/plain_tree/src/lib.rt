@@ -3,5 +3,5 @@
 
 mod laws;
 
-pub use laws::{changes_keep_seals, changes_keep_trees, stored_entries_agree, texts_lead};
-pub use mount_limits::{MOST_CHILDREN, MOST_NODES};
+pub use laws::{changes_keep_seals, changes_keep_trees, stored_entries_agree, texts_resolve};
+pub use mount_limits::{MAX_CHILDREN, MAX_NODES};

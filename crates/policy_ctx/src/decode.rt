@@ -58,10 +58,10 @@ fn read_policy(bytes: &[u8]) -> Result<Policy, CtxFault>
     if bytes[1] != CONTENTS_MODE || bytes[2] != NAMES_MODE {
         return Err(CtxFault::Modes);
     }
-    let Some((pad, by_mode)) = flags_told(bytes[3]) else {
+    let Some((pad, by_mode)) = flags_of_byte(bytes[3]) else {
         return Err(CtxFault::Flags);
     };
-    let Some(unit) = unit_told(bytes[4]) else {
+    let Some(unit) = unit_of_log(bytes[4]) else {
         return Err(CtxFault::Unit);
     };
     if bytes[5] != 0 || bytes[6] != 0 || bytes[7] != 0 {
@@ -78,7 +78,7 @@ fn read_policy(bytes: &[u8]) -> Result<Policy, CtxFault>
 }
 
 // The padding in the flags byte, and whether flag 8 is set: a byte of 0 to 3, or of 8 to 11.
-fn flags_told(flags: u8) -> Option<(Pad, bool)>
+fn flags_of_byte(flags: u8) -> Option<(Pad, bool)>
     ensures found { IfSome result (λ told. flags_of told.0 told.1 ≡ flags) }
     ensures fits { IfSome result (λ _. are_flags flags ≡ true) }
     ensures none { IfNone result (are_flags flags ≡ false) }
@@ -97,7 +97,7 @@ fn flags_told(flags: u8) -> Option<(Pad, bool)>
 }
 
 // The unit of the byte: a byte of 0, or of 9 to 12.
-fn unit_told(log: u8) -> Option<Unit>
+fn unit_of_log(log: u8) -> Option<Unit>
     ensures found { IfSome result (λ unit. unit_log2 unit ≡ log) }
     ensures fits { IfSome result (λ _. is_unit_log2 log ≡ true) }
     ensures none { IfNone result (is_unit_log2 log ≡ false) }

@@ -10,7 +10,7 @@ use Rattle.std.proofs.lemmas.List.Splits.{slice_split_first, slice_split_none, l
 use Rattle.text_words.specs.Lines.{is_line_feed, pieces_of}
 use Rattle.text_words.specs.Lines.{ended}
 use Rattle.protector_meta.specs.RecordLines.{ended_lines}
-use Rattle.protector_meta.specs.Reading.{◌>>=◌, line_at, required, value_at}
+use Rattle.protector_meta.specs.Reading.{◌>>=◌, line_at, required_value, value_at}
 use Rattle.protector_meta.specs.declared.fault.MetaFault.{MetaFault}
 use Rattle.protector_meta.specs.declared.fault.MetaFault.TheVariants.{Bad}
 use Rattle.text_words.proofs.PieceLemmas.{is_free_of}
@@ -31,13 +31,13 @@ pub line_again : (number : ℕ) (line rest : List ℕ) → is_free_of 10 line �
 line_again number line rest h =
     let place = feed_after line rest h in
     let front : before_first is_line_feed (line ++ 10 ∷ rest) ≡ line = rw place (take_at line (10 ∷ rest) (length line) refl) in
-    let back : after_first is_line_feed (line ++ 10 ∷ rest) ≡ rest = rw place (behind line rest) in
+    let back : after_first is_line_feed (line ++ 10 ∷ rest) ≡ rest = rw place (rest_after line rest) in
     let inside : ltb (position_or_len is_line_feed (line ++ 10 ∷ rest)) (length (line ++ 10 ∷ rest)) ≡ true = rw place (lt-ltb _ _ (longer line rest)) in
     chosen _ _ _ _ _ inside front back
   where
-    behind : (line rest : List ℕ) → drop (length line + 1) (line ++ 10 ∷ rest) ≡ rest
-    behind [] rest = refl
-    behind (b ∷ line) rest = rw add-one (ap (λ n. drop n (line ++ 10 ∷ rest)) (sym add-one-plain) ∙ behind line rest)
+    rest_after : (line rest : List ℕ) → drop (length line + 1) (line ++ 10 ∷ rest) ≡ rest
+    rest_after [] rest = refl
+    rest_after (b ∷ line) rest = rw add-one (ap (λ n. drop n (line ++ 10 ∷ rest)) (sym add-one-plain) ∙ rest_after line rest)
       where
         add-one-plain : length line + 1 ≡ suc (length line)
         add-one-plain = omega arith
@@ -77,11 +77,11 @@ pub value_found : {A B : Type 0} (value : List ℕ → Option A) (number : ℕ) 
     → (value_at value number text >>= λ x. next x.0 x.1) ≡ Ok y → Found value text next y
 value_found {A = A} value number text next y h = at (line_at number text) refl h
   where
-    valued : (line rest : List ℕ) (o : Option A) → value line ≡ o → text ≡ line ++ 10 ∷ rest → (required o number rest >>= λ x. next x.0 x.1) ≡ Ok y → Found value text next y
+    valued : (line rest : List ℕ) (o : Option A) → value line ≡ o → text ≡ line ++ 10 ∷ rest → (required_value o number rest >>= λ x. next x.0 x.1) ≡ Ok y → Found value text next y
     valued line rest None e parts h = absurd (cc h)
     valued line rest (Some x) e parts h = record { line = line; rest = rest; of = x; parts = parts; valued = e; went_on = h }
 
-    at : (r : Result (List ℕ × List ℕ) MetaFault) → line_at number text ≡ r → (r >>= (λ x. required (value x.0) number x.1) >>= λ x. next x.0 x.1) ≡ Ok y → Found value text next y
+    at : (r : Result (List ℕ × List ℕ) MetaFault) → line_at number text ≡ r → (r >>= (λ x. required_value (value x.0) number x.1) >>= λ x. next x.0 x.1) ≡ Ok y → Found value text next y
     at (Err e) is h = absurd (cc h)
     at (Ok x) is h = valued x.0 x.1 (value x.0) refl (line_found number text x is) h
 

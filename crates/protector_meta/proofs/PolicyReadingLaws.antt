@@ -17,12 +17,12 @@ use Rattle.protector_meta.specs.declared.policy_file.Options.{Options}
 use Rattle.protector_meta.specs.declared.policy_file.PolicyFile.{PolicyFile}
 use Rattle.protector_meta.specs.Wraps.{AreWraps}
 use Rattle.protector_meta.specs.Reading.{◌>>=◌}
-use Rattle.protector_meta.specs.RecordLines.{IsFirstBad, RecordTest, TellsFirstBad, ended_lines}
+use Rattle.protector_meta.specs.RecordLines.{IsFirstBad, RecordTest, NamesFirstBadLine, ended_lines}
 use Rattle.byte_words.specs.Bytes.{AreBytesOfLength}
 use Rattle.protector_meta.specs.PolicyText.{option_lines, options_line, policy_lines, policy_text, version_line, wrap_line}
 use Rattle.protector_meta.specs.PolicyRecords.{IsPolicyFile, IsPolicyRecord, IsWrap}
 use Rattle.protector_meta.specs.PolicyLines.{head_value}
-use Rattle.protector_meta.specs.PolicyReading.{GivesInMemory, behind_id, policy_read, with_wraps, wraps_from}
+use Rattle.protector_meta.specs.PolicyReading.{GivesInMemory, after_id, policy_read, with_wraps, wraps_from}
 use Rattle.text_words.proofs.PieceLemmas.{AreLines, ended-append, ended-from_pieces, is_free_of, pieces_of-ended}
 use Rattle.protector_meta.proofs.LineLaws.{ended-map, ended-push}
 use Rattle.protector_meta.proofs.Readers.{Reads, Spells, Stops, Then, line_then, only_one, record_again, record_bad, record_found, stops_alike}
@@ -135,7 +135,7 @@ IsWhole =
     Then (AreBytesOfLength 16) (λ id. codes "id " ++ encode_lower id) (λ id.
     IsBehind has name id)))
 
-behind_reads : (has : Bool) (name id : List ℕ) → Reads (IsBehind has name id) 4 (behind_id has name id)
+behind_reads : (has : Bool) (name id : List ℕ) → Reads (IsBehind has name id) 4 (after_id has name id)
 behind_reads false name id = tail_reads name id None 4
 behind_reads true name id = line_then 4 options_spelled (λ o. tail_reads name id (Some o) 5)
 
@@ -177,7 +177,7 @@ policy_found = record_found reads told whole
 pub policy_again : (p : PolicyFile) → IsPolicyFile p → policy_read (policy_text p) ≡ Ok p
 policy_again = record_again reads told whole
 
-pub policy_bad : (text : List ℕ) (e : MetaFault) → policy_read text ≡ Err e → TellsFirstBad IsPolicyRecord text e
+pub policy_bad : (text : List ℕ) (e : MetaFault) → policy_read text ≡ Err e → NamesFirstBadLine IsPolicyRecord text e
 policy_bad = record_bad reads told whole
 
 -- ---- as a caller sees it
@@ -193,7 +193,7 @@ seen_every text (Err NoMemory) gives p is same = inr refl
 seen_every text (Err (Bad line)) gives p is same = absurd (cc (sym gives ∙ (ap policy_read same ∙ policy_again p is)))
 
 pub seen_bad : (text : List ℕ) (r : Result PolicyFile MetaFault) → GivesInMemory (λ p. p) r (policy_read text)
-    → IfErr r (λ fault. (fault ≡ NoMemory) ⊎ TellsFirstBad IsPolicyRecord text fault)
+    → IfErr r (λ fault. (fault ≡ NoMemory) ⊎ NamesFirstBadLine IsPolicyRecord text fault)
 seen_bad text (Ok p) gives = tt
 seen_bad text (Err NoMemory) gives = inl refl
 seen_bad text (Err (Bad number)) gives = inr (policy_bad text (Bad number) gives)

@@ -6,7 +6,7 @@ use Rattle.hex.specs.Hex.{encode_lower}
 use Rattle.byte_words.specs.Bytes.{AreBytesOfLength}
 use Rattle.short_bytes.specs.Label.{IsLabel}
 use Rattle.protector_meta.specs.Descriptor.{IsDescriptor}
-use Rattle.protector_meta.specs.RecordLines.{IsFirstBad, RecordTest, TellsFirstBad}
+use Rattle.protector_meta.specs.RecordLines.{IsFirstBad, RecordTest, NamesFirstBadLine}
 use Rattle.protector_meta.specs.ProtectorText.{IsKind, IsProtector, IsProtectorRecord, kind_text, protector_lines, protector_text}
 use Rattle.protector_meta.specs.ProtectorReading.{protector_read}
 use Rattle.protector_meta.specs.declared.fault.MetaFault.{MetaFault}
@@ -69,7 +69,7 @@ pub protector_again : (p : Protector) → IsProtector p → protector_read (prot
 unfolding protector_text
 protector_again = record_again reads told whole
 
-pub protector_bad : (text : List ℕ) (e : MetaFault) → protector_read text ≡ Err e → TellsFirstBad IsProtectorRecord text e
+pub protector_bad : (text : List ℕ) (e : MetaFault) → protector_read text ≡ Err e → NamesFirstBadLine IsProtectorRecord text e
 protector_bad = record_bad reads told whole
 
 -- ---- the result of a reader
@@ -78,7 +78,7 @@ pub IfOk-found : (text : List ℕ) (r : Result Protector MetaFault) → r ≡ pr
 IfOk-found text (Ok p) e = protector_found text p (sym e)
 IfOk-found text (Err fault) e = tt
 
-pub IfErr-bad : (text : List ℕ) (r : Result Protector MetaFault) → r ≡ protector_read text → IfErr r (TellsFirstBad IsProtectorRecord text)
+pub IfErr-bad : (text : List ℕ) (r : Result Protector MetaFault) → r ≡ protector_read text → IfErr r (NamesFirstBadLine IsProtectorRecord text)
 IfErr-bad text (Ok p) e = tt
 IfErr-bad text (Err fault) e = protector_bad text fault (sym e)
 

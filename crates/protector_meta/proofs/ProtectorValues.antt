@@ -14,7 +14,7 @@ use Rattle.protector_meta.specs.Descriptor.{IsDescriptor}
 use Rattle.protector_meta.specs.RecordLines.{RecordTest, ended_lines}
 use Rattle.protector_meta.specs.ProtectorText.{IsKind, kind_text}
 use Rattle.protector_meta.specs.ProtectorLines.{head_value, kind_line_value, descriptor_value, descriptor_line_value}
-use Rattle.protector_meta.specs.ProtectorReading.{nothing_left}
+use Rattle.protector_meta.specs.ProtectorReading.{end_of_record}
 use Rattle.protector_meta.specs.declared.fault.MetaFault.{MetaFault}
 use Rattle.protector_meta.specs.declared.fault.MetaFault.TheVariants.{Bad}
 use Rattle.protector_meta.specs.declared.protector.Protector.{Protector}
@@ -57,14 +57,14 @@ descriptor_spelled = word_spelled (codes "descriptor ") refl (record {
 abbrev pub IsEnd : Protector → Protector → RecordTest
 IsEnd told p lines = (lines ≡ []) × (told ≡ p)
 
-at_end : (number : ℕ) (text : List ℕ) (p q : Protector) → nothing_left number text p ≡ Ok q → (text ≡ []) × (p ≡ q)
+at_end : (number : ℕ) (text : List ℕ) (p q : Protector) → end_of_record number text p ≡ Ok q → (text ≡ []) × (p ≡ q)
 at_end number text p q h = of (length text == 0) refl h
   where
     of : (b : Bool) → (length text == 0) ≡ b → (let r : Result Protector MetaFault = if b then Ok p else Err (Bad number) in r ≡ Ok q) → (text ≡ []) × (p ≡ q)
     of true e h = (nil_from_length text (eqb-true _ _ e), cc h)
     of false e h = absurd (cc h)
 
-end_stops : (p : Protector) (text : List ℕ) (e : MetaFault) → nothing_left 8 text p ≡ Err e → Stops (λ lines. (q : Protector) × IsEnd p q lines) 8 (ended_lines text) e
+end_stops : (p : Protector) (text : List ℕ) (e : MetaFault) → end_of_record 8 text p ≡ Err e → Stops (λ lines. (q : Protector) × IsEnd p q lines) 8 (ended_lines text) e
 end_stops p text e h =
     stops_here (λ lines. (q : Protector) × IsEnd p q lines) 8 (ended_lines text) e (of (length text == 0) h) ([], (p, (refl, refl)))
     (λ line more same go_on. absurd (cc go_on.1.1.0))
@@ -73,10 +73,10 @@ end_stops p text e h =
     of true h = absurd (cc h)
     of false h = cc h
 
-pub end_reads : (p : Protector) → Reads (IsEnd p) 8 (λ text. nothing_left 8 text p)
+pub end_reads : (p : Protector) → Reads (IsEnd p) 8 (λ text. end_of_record 8 text p)
 end_reads p = record {
   some = (p, ([], (refl, refl)));
   found = λ text q h. let are = at_end 8 text p q h in ([], (are.0, (refl, are.1)));
-  again = λ q lines is. ap (λ ls. nothing_left 8 (ended ls) p) is.0 ∙ ap Ok is.1;
+  again = λ q lines is. ap (λ ls. end_of_record 8 (ended ls) p) is.0 ∙ ap Ok is.1;
   stops = end_stops p;
 }

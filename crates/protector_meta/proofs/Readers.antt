@@ -8,8 +8,8 @@ use Rattle.text_words.specs.Lines.{ended, is_line_feed}
 use Rattle.text_words.proofs.PieceLemmas.{is_free_of}
 use Rattle.protector_meta.specs.declared.fault.MetaFault.{MetaFault}
 use Rattle.protector_meta.specs.declared.fault.MetaFault.TheVariants.{Bad, NoMemory}
-use Rattle.protector_meta.specs.Reading.{◌>>=◌, required, value_at}
-use Rattle.protector_meta.specs.RecordLines.{Begins, IsFirstBad, RecordTest, TellsFirstBad, ended_lines}
+use Rattle.protector_meta.specs.Reading.{◌>>=◌, required_value, value_at}
+use Rattle.protector_meta.specs.RecordLines.{Begins, IsFirstBad, RecordTest, NamesFirstBadLine, ended_lines}
 use Rattle.protector_meta.proofs.LineLaws.{ended_more, ended_none, value_again, value_found}
 
 -- ---- the line at which reading stops
@@ -57,7 +57,7 @@ stops_behind A B line lines place e to from s =
     }
 
 -- as a caller sees it
-pub stops_told : (IsRecord : RecordTest) (text : List ℕ) (e : MetaFault) → Stops IsRecord 1 (ended_lines text) e → TellsFirstBad IsRecord text e
+pub stops_told : (IsRecord : RecordTest) (text : List ℕ) (e : MetaFault) → Stops IsRecord 1 (ended_lines text) e → NamesFirstBadLine IsRecord text e
 stops_told IsRecord text (Bad place) s =
     let is : place ≡ 1 + length s.before = cc s.told in
     record { before = s.before; others = s.others; parts = s.parts; counted = omega arith; fit = s.fit; unfit = s.unfit }
@@ -80,7 +80,7 @@ same_length IsRest (x ∷ xs) others (y ∷ ys) more same fit_xs fit_ys unfit_xs
     (λ line ls is begun. unfit_ys line ls is (begun.0, as_y ((ys ++ line ∷ []) ++ begun.0) begun.1)) in
     omega arith
 
-pub only_one : (IsRecord : RecordTest) (text : List ℕ) (e : MetaFault) (place : ℕ) → TellsFirstBad IsRecord text e → IsFirstBad IsRecord text place → e ≡ Bad place
+pub only_one : (IsRecord : RecordTest) (text : List ℕ) (e : MetaFault) (place : ℕ) → NamesFirstBadLine IsRecord text e → IsFirstBad IsRecord text place → e ≡ Bad place
 only_one IsRecord text (Bad n) place a b =
     let long = same_length IsRecord a.before a.others b.before b.others (sym a.parts ∙ b.parts) a.fit b.fit a.unfit b.unfit in
     let same : n ≡ place = omega (arith, a.counted, b.counted) in
@@ -158,7 +158,7 @@ module _ {A P : Type 0} {value : List ℕ → Option A} {Is : A → Type 0} {lin
   refused : (line : List ℕ) (lines : List (List ℕ)) → value line ≡ None → IsAny (line ∷ lines) → ⊥
   refused line lines none (p, (x, (rest, (are, (is, goes_on))))) = absurd (cc (none, valued_so line lines x rest are is))
 
-  valued : (line rest : List ℕ) (o : Option A) (e : MetaFault) → value line ≡ o → (required o place rest >>= λ x. next x.0 x.1) ≡ Err e
+  valued : (line rest : List ℕ) (o : Option A) (e : MetaFault) → value line ≡ o → (required_value o place rest >>= λ x. next x.0 x.1) ≡ Err e
       → Stops IsAny place (line ∷ ended_lines rest) e
   valued line rest None e is h =
       stops_here IsAny place (line ∷ ended_lines rest) e (cc h) begun
@@ -198,7 +198,7 @@ module _ {P : Type 0} {IsWhole : P → RecordTest} {read : List ℕ → Result P
   pub record_again : (p : P) → IsValue p → read (ended (lines_of p)) ≡ Ok p
   record_again p is = reads.again p (lines_of p) (whole p is)
 
-  pub record_bad : (text : List ℕ) (e : MetaFault) → read text ≡ Err e → TellsFirstBad (λ lines. (p : P) × (IsValue p × (lines ≡ lines_of p))) text e
+  pub record_bad : (text : List ℕ) (e : MetaFault) → read text ≡ Err e → NamesFirstBadLine (λ lines. (p : P) × (IsValue p × (lines ≡ lines_of p))) text e
   record_bad text e h =
       let IsRecord : RecordTest = λ lines. (p : P) × (IsValue p × (lines ≡ lines_of p)) in
       stops_told IsRecord text e (stops_alike (λ lines. (p : P) × IsWhole p lines) IsRecord 1 (ended_lines text) e

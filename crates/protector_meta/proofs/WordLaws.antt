@@ -2,7 +2,7 @@
 use Rattle.std.proofs.Common.{◌≡◌, ℕ, ◌<◌, ◌==◌, true, not, List, ◌++◌, Option, Some, None, refl, ap, ◌∙◌, arith}
 use Rattle.std.proofs.lemmas.Bool.Decides.{nat_tests}
 use Rattle.std.specs.Option.{option_and_then}
-use Rattle.text_words.specs.Words.{behind}
+use Rattle.text_words.specs.Words.{rest_after}
 use Rattle.text_words.proofs.PieceLemmas.{is_free_of}
 use Rattle.text_words.proofs.WordLemmas.{behind_again, behind_found, implied}
 use Rattle.short_bytes.specs.Label.{IsLabel, is_label_character}
@@ -23,7 +23,7 @@ word_value_again word value rest x h = ap (option_and_then value) (behind_again 
 pub word_value_found : {A : Type 0} (word : List ℕ) (value : List ℕ → Option A) (text : List ℕ) (x : A) → word_value word value text ≡ Some x
     → (rest : List ℕ) × (text ≡ word ++ rest) × (value rest ≡ Some x)
 word_value_found word value text x h =
-    let on = went_on value (behind word text) x h in
+    let on = went_on value (rest_after word text) x h in
     (on.0, behind_found word text on.0 on.1, on.2)
 
 -- ---- labels

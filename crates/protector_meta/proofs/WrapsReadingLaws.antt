@@ -81,8 +81,8 @@ taken wraps line wrap is new room =
     rw (is, new, below) refl
 
 -- the next wrap finds a free slot
-room_for : (wraps : List Wrap) (line : List ℕ) (wrap : Wrap) → next_wrap wraps line ≡ Some wrap → (is_listed wrap.protector wraps ≡ false) × (length wraps < 16)
-room_for wraps line wrap h = go (is_listed wrap.protector wraps) (nat_le 16 (length wraps)) refl refl
+wrap_space : (wraps : List Wrap) (line : List ℕ) (wrap : Wrap) → next_wrap wraps line ≡ Some wrap → (is_listed wrap.protector wraps ≡ false) × (length wraps < 16)
+wrap_space wraps line wrap h = go (is_listed wrap.protector wraps) (nat_le 16 (length wraps)) refl refl
   where
     told : (if is_none (adding_fault wrap.protector wraps) then Some wrap else None) ≡ Some wrap
     told = rw (of_line wraps line wrap h) at h
@@ -133,7 +133,7 @@ wraps_found number wraps (line ∷ next ∷ more) all distinct few h =
         → (rest : List Wrap) × ((all ≡ wraps ++ rest) × ((line ∷ next ∷ more ≡ map wrap_line rest ++ [] ∷ []) × (AreWraps (wraps ++ rest) × AllByRecursion IsWrap rest)))
     go None e later = absurd (cc (rw e at h))
     go (Some wrap) e later =
-        let room = room_for wraps line wrap e in
+        let room = wrap_space wraps line wrap e in
         let found = later wrap (AreDistinct-push wraps wrap distinct room.0) (omega (arith, length-append wraps (wrap ∷ []), room.1)) (rw e at h) in
         let told = wrap_spelled.found line wrap (of_line wraps line wrap e) in
         let same : (wraps ++ wrap ∷ []) ++ found.0 ≡ wraps ++ wrap ∷ found.0 = append_assoc wraps (wrap ∷ []) found.0 in (
@@ -158,8 +158,8 @@ at_pieces number wraps line (next ∷ more) some = refl
 not_before : (earlier : List Wrap) (w : Wrap) (later : List Wrap) → AreDistinct (earlier ++ w ∷ later) → is_listed w.protector earlier ≡ false
 not_before [] w later distinct = refl
 not_before (x ∷ earlier) w later distinct =
-    let behind = or_parts (is_listed x.protector earlier) (is_listed x.protector (w ∷ later)) (sym (list_any-append (is_for x.protector) earlier (w ∷ later)) ∙ distinct.0) in
-    let apart = or_parts (is_for x.protector w) (is_listed x.protector later) behind.1 in
+    let rest_after = or_parts (is_listed x.protector earlier) (is_listed x.protector (w ∷ later)) (sym (list_any-append (is_for x.protector) earlier (w ∷ later)) ∙ distinct.0) in
+    let apart = or_parts (is_for x.protector w) (is_listed x.protector later) rest_after.1 in
     or_from (is_for w.protector x) (is_listed w.protector earlier) (nat_list_eq_equiv.symm x.protector w.protector ∙ apart.0) (not_before earlier w later distinct.1)
 
 pub wraps_again : (number : ℕ) (earlier more : List Wrap) → AreDistinct (earlier ++ more) → length (earlier ++ more) ≤ 16 → 0 < length (earlier ++ more)
@@ -230,7 +230,7 @@ wraps_stop number wraps (line ∷ next ∷ more) e distinct few h =
         let first : line ≡ l = cc same in
         absurd (cc (is, ap (next_wrap wraps) first, (next_so wraps l go_on.0 go_on.1).1.0)))
     go (Some wrap) is later =
-        let room = room_for wraps line wrap is in
+        let room = wrap_space wraps line wrap is in
         let told = wrap_spelled.found line wrap (of_line wraps line wrap is) in
         stops_behind (AreMore wraps) (AreMore (wraps ++ wrap ∷ [])) line rest number e
         (λ ls go_on. (wrap ∷ go_on.0, (ap (λ l. l ∷ ls) told.0 ∙ ap (λ r. wrap_line wrap ∷ r) go_on.1.0, (subst AreWraps (append_assoc wraps (wrap ∷ []) go_on.0) go_on.1.1.0, (told.1, go_on.1.1.1)))))

@@ -2,12 +2,12 @@
 use Rattle.std.specs.Prelude.{ℕ, List, codes, Option}
 use Rattle.std.specs.Option.{option_and_then}
 use Rattle.text_words.specs.Digits.{lower_hex_bytes_of_length}
-use Rattle.text_words.specs.Words.{behind}
+use Rattle.text_words.specs.Words.{rest_after}
 use Rattle.short_bytes.specs.Label.{label_of}
 
 -- the value of the text after a word
 abbrev pub word_value : {A : Type 0} → List ℕ → (List ℕ → Option A) → List ℕ → Option A
-word_value word value text = option_and_then value (behind word text)
+word_value word value text = option_and_then value (rest_after word text)
 
 -- the label on the line of a name
 abbrev pub name_line_value : List ℕ → Option (List ℕ)

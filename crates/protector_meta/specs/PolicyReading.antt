@@ -30,9 +30,9 @@ with_wraps name id options first text = do
       in Ok p
 
 -- the same from the fourth line on, which is the line of options if there is one
-abbrev pub behind_id : Bool → List ℕ → List ℕ → List ℕ → Result PolicyFile MetaFault
-behind_id false name id text = with_wraps name id None 4 text
-behind_id true name id text = do
+abbrev pub after_id : Bool → List ℕ → List ℕ → List ℕ → Result PolicyFile MetaFault
+after_id false name id text = with_wraps name id None 4 text
+after_id true name id text = do
   options ← value_at options_value 4 text
   with_wraps name id (Some options.0) 5 options.1
 
@@ -42,7 +42,7 @@ policy_read text = do
   head ← value_at head_value 1 text
   name ← value_at name_line_value 2 head.1
   id ← value_at id_value 3 name.1
-  behind_id head.0 name.0 id.0 id.1
+  after_id head.0 name.0 id.0 id.1
 
 -- what a function returned, seen by view, is what reading gives, unless there was no memory
 abbrev pub GivesInMemory : {X Y : Type 0} → (X → Y) → Result X MetaFault → Result Y MetaFault → Type 0

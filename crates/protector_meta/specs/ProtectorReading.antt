@@ -9,16 +9,16 @@ use Rattle.protector_meta.specs.declared.protector.Protector.{Protector}
 use Rattle.protector_meta.specs.declared.protector.ProtectorKind.{ProtectorKind}
 
 -- a record ends here
-abbrev pub nothing_left : ℕ → List ℕ → Protector → Result Protector MetaFault
-nothing_left number text p = if length text == 0 then Ok p else Err (Bad number)
+abbrev pub end_of_record : ℕ → List ℕ → Protector → Result Protector MetaFault
+end_of_record number text p = if length text == 0 then Ok p else Err (Bad number)
 
 -- the protector of the values on the lines before, and of the last three lines
-abbrev pub behind_descriptor : List ℕ → ProtectorKind → List ℕ → List ℕ → Result Protector MetaFault
-behind_descriptor name kind descriptor text = do
+abbrev pub after_descriptor : List ℕ → ProtectorKind → List ℕ → List ℕ → Result Protector MetaFault
+after_descriptor name kind descriptor text = do
   iv ← value_at (digits_line_value (codes "iv ") 16) 5 text
   key ← value_at (digits_line_value (codes "key ") 32) 6 iv.1
   tag ← value_at (digits_line_value (codes "tag ") 32) 7 key.1
-  nothing_left 8 tag.1 (record {
+  end_of_record 8 tag.1 (record {
     name = name;
     kind = kind;
     descriptor = descriptor;
@@ -28,15 +28,15 @@ behind_descriptor name kind descriptor text = do
   })
 
 -- the protector of this name, and of the lines from the third on
-abbrev pub behind_name : List ℕ → List ℕ → Result Protector MetaFault
-behind_name name text = do
+abbrev pub after_name : List ℕ → List ℕ → Result Protector MetaFault
+after_name name text = do
   kind ← value_at kind_line_value 3 text
   descriptor ← value_at descriptor_line_value 4 kind.1
-  behind_descriptor name kind.0 descriptor.0 descriptor.1
+  after_descriptor name kind.0 descriptor.0 descriptor.1
 
 -- the protector whose record the text is, or the line at fault
 unfoldable pub protector_read : List ℕ → Result Protector MetaFault
 protector_read text = do
   head ← value_at head_value 1 text
   name ← value_at name_line_value 2 head.1
-  behind_name name.0 name.1
+  after_name name.0 name.1

@@ -21,13 +21,13 @@ line_at number text =
     else Err (Bad number)
 
 -- a value that a line must have
-abbrev pub required : {A : Type 0} → Option A → ℕ → List ℕ → Result (A × List ℕ) MetaFault
-required None number rest = Err (Bad number)
-required (Some x) number rest = Ok (x, rest)
+abbrev pub required_value : {A : Type 0} → Option A → ℕ → List ℕ → Result (A × List ℕ) MetaFault
+required_value None number rest = Err (Bad number)
+required_value (Some x) number rest = Ok (x, rest)
 
 -- the value of the first line, and the text after the line
 abbrev pub value_at : {A : Type 0} → (List ℕ → Option A) → ℕ → List ℕ → Result (A × List ℕ) MetaFault
-value_at value number text = line_at number text >>= λ x. required (value x.0) number x.1
+value_at value number text = line_at number text >>= λ x. required_value (value x.0) number x.1
 
 -- what a function returned, seen by view, is what reading gives
 abbrev pub Gives : {X Y : Type 0} → (X → Y) → Result X MetaFault → Result Y MetaFault → Type 0

@@ -29,6 +29,6 @@ pub record IsFirstBad (IsRecord : RecordTest) (text : List ℕ) (place : ℕ) : 
       → Begins IsRecord (before ++ line ∷ []) → ⊥
 
 -- the fault names that place
-abbrev pub TellsFirstBad : RecordTest → List ℕ → MetaFault → Type 0
-TellsFirstBad IsRecord text (Bad line) = IsFirstBad IsRecord text line
-TellsFirstBad IsRecord text NoMemory = ⊥
+abbrev pub NamesFirstBadLine : RecordTest → List ℕ → MetaFault → Type 0
+NamesFirstBadLine IsRecord text (Bad line) = IsFirstBad IsRecord text line
+NamesFirstBadLine IsRecord text NoMemory = ⊥

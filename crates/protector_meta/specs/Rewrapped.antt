@@ -6,8 +6,8 @@ use Rattle.protector_meta.specs.declared.protector.Protector.{Protector}
 
 -- the kind and the iv are those given, the key and the tag are what wrapping gives, and the name and the
 -- descriptor stay
-abbrev pub rewrapped : Protector → ProtectorKind → List ℕ → List ℕ → List ℕ → Protector
-rewrapped p kind wrapping iv key =
+abbrev pub rewrapped_protector : Protector → ProtectorKind → List ℕ → List ℕ → List ℕ → Protector
+rewrapped_protector p kind wrapping iv key =
     record p {
       kind = kind;
       iv = iv;

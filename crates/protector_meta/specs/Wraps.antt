@@ -3,7 +3,7 @@ use Rattle.std.specs.Prelude.{ℕ, ◌≤◌, ◌==◌, Bool, not, IsFalse, nat_
 use Rattle.std.specs.Prelude.{◌∷◌, length, Option, Some, None, if◌then◌else◌}
 use Rattle.std.specs.List.{list_any, find, filter}
 use Rattle.std.specs.Str.{bytes_eq}
-use Rattle.protector_meta.specs.declared.wraps.TheConstants.{MOST_WRAPS}
+use Rattle.protector_meta.specs.declared.wraps.TheConstants.{MAX_WRAPS}
 use Rattle.protector_meta.specs.declared.wraps.Wrap.{Wrap}
 use Rattle.protector_meta.specs.declared.wraps.WrapFault.{WrapFault}
 use Rattle.protector_meta.specs.declared.wraps.WrapFault.TheVariants.{Listed, Full, NotListed, LastOne}
@@ -21,10 +21,10 @@ abbrev pub AreDistinct : List Wrap → Type 0
 AreDistinct [] = Unit {0}
 AreDistinct (wrap ∷ wraps) = IsFalse (is_listed wrap.protector wraps) × AreDistinct wraps
 
--- 1 to MOST_WRAPS wraps, each for another protector
+-- 1 to MAX_WRAPS wraps, each for another protector
 pub record AreWraps (wraps : List Wrap) : Type 0 where
   pub some : 1 ≤ length wraps
-  pub few : length wraps ≤ MOST_WRAPS
+  pub few : length wraps ≤ MAX_WRAPS
   pub distinct : AreDistinct wraps
 
 -- the wrap for the protector of this label, if it is listed
@@ -39,7 +39,7 @@ wraps_without label wraps = filter (λ wrap. not (is_for label wrap)) wraps
 abbrev pub adding_fault : List ℕ → List Wrap → Option WrapFault
 adding_fault label wraps =
     if is_listed label wraps then Some Listed else
-    if nat_le MOST_WRAPS (length wraps) then Some Full else
+    if nat_le MAX_WRAPS (length wraps) then Some Full else
     None
 
 -- why its wrap can't be dropped: the first that holds

@@ -9,7 +9,7 @@ ghost use Rattle.protector_meta.specs.LineValues as spec;
 use crate::fault::MetaFault;
 use short_bytes::Label;
 use std::alloc::AllocError;
-use text_words::{behind, lower_hex_bytes, next_line, push_lower_hex};
+use text_words::{lower_hex_bytes, next_line, push_lower_hex, rest_after};
 
 // The first line, if a line feed ends it, and the text after the line feed. Otherwise the line of this
 // number is at fault.
@@ -28,14 +28,14 @@ pub(crate) fn ended_line(text: &[u8], number: u32) -> Result<(&[u8], &[u8]), Met
 pub(crate) fn name_line_value(line: &[u8]) -> Option<Label>
     ensures { result ≡ spec.name_line_value line.now }
 {
-    Label::read(behind(line, b"name ")?)
+    Label::read(rest_after(line, b"name ")?)
 }
 
 // The bytes that the digits after the word spell, if the line begins with the word.
 fn digits_line_value<const N: usize>(line: &[u8], word: &[u8]) -> Option<[u8; N]>
     ensures { result ≡ spec.digits_line_value word.now N line.now }
 {
-    lower_hex_bytes(behind(line, word)?)
+    lower_hex_bytes(rest_after(line, word)?)
 }
 
 // The bytes that the digits after the word on the first line spell, and the text after the line.

@@ -10,13 +10,13 @@ use std::alloc::{AllocError, Global};
 
 /// The maximal number of bytes of a link's text: 16 before the label, the label, and a line feed after
 /// it.
-pub const MOST_LINK_BYTES: usize = 49;
+pub const MAX_LINK_BYTES: usize = 49;
 
 /// Returns the text of the link to the protector of this label: `fsc-link 1`, then `name ` and the label,
 /// each line ended by a line feed. The text has at most 49 bytes. The only error is out of memory.
 pub fn encode_link(alloc: Global, label: &Label) -> Result<Bytes, AllocError>
     ensures text { IfOk result (λ text. text ≡ link_text label.now) }
-    ensures few { IfOk result (λ text. length text ≤ MOST_LINK_BYTES) }
+    ensures few { IfOk result (λ text. length text ≤ MAX_LINK_BYTES) }
 {
     let link = link_to(label);
     Ok(Bytes::from_vec(Vec::from_slice(alloc, link.bytes())?))
@@ -33,7 +33,7 @@ pub fn is_link(label: &Label, bytes: &[u8]) -> bool
 
 // The text of the link, without an allocation.
 #[tactic(auto, unfolding(crate::specs::LinkText::link_text))]
-fn link_to(label: &Label) -> Filled<MOST_LINK_BYTES>
+fn link_to(label: &Label) -> Filled<MAX_LINK_BYTES>
     ensures { result ≡ link_text label.now }
 {
     let mut link = Filled::of(b"fsc-link 1\nname ");

@@ -7,12 +7,12 @@ ghost use Rattle.text_words.specs.Words.{words_of};
 ghost use Rattle.protector_meta.specs.declared.fault.MetaFault.TheVariants.{Bad, NoMemory};
 ghost use Rattle.protector_meta.specs.declared.wraps.Wrap.{Wrap};
 ghost use Rattle.protector_meta.specs.declared.policy_file.PolicyFile.{PolicyFile};
-ghost use Rattle.protector_meta.specs.RecordLines.{IsFirstBad, TellsFirstBad};
+ghost use Rattle.protector_meta.specs.RecordLines.{IsFirstBad, NamesFirstBadLine};
 ghost use Rattle.protector_meta.specs.PolicyText.{policy_text};
 ghost use Rattle.protector_meta.specs.PolicyRecords.{IsPolicyFile, IsPolicyRecord};
 ghost use Rattle.protector_meta.specs.PolicyLines as spec;
 ghost use Rattle.protector_meta.specs.WrapLines.{next_wrap, wrap_of_words, wrap_value};
-ghost use Rattle.protector_meta.specs.PolicyReading.{GivesInMemory, behind_id, policy_read, wraps_from};
+ghost use Rattle.protector_meta.specs.PolicyReading.{GivesInMemory, after_id, policy_read, wraps_from};
 
 use crate::fault::MetaFault;
 use crate::lines::{ended_line, name_line_value, read_digits};
@@ -24,7 +24,7 @@ use policy_ctx::{Pad, Unit};
 use short_bytes::Label;
 use std::alloc::Global;
 use text_words::{
-    behind, decimal_value, lower_hex_bytes, next_line, nth_word, two_words, word_count,
+    decimal_value, lower_hex_bytes, next_line, nth_word, rest_after, two_words, word_count,
 };
 
 /// The number of the first line after the identifier: of the options, or else of the first wrap.
@@ -40,7 +40,7 @@ pub fn decode_policy_file(alloc: Global, text: &[u8]) -> Result<PolicyFile, Meta
     ensures found { IfOk result (λ p. IsPolicyFile p × (text.now ≡ policy_text p)) }
     ensures every { (p : PolicyFile) → IsPolicyFile p → text.now ≡ policy_text p
         → (result ≡ Ok p) ⊎ (result ≡ Err NoMemory) }
-    ensures bad { IfErr result (λ fault. (fault ≡ NoMemory) ⊎ TellsFirstBad IsPolicyRecord text.now fault) }
+    ensures bad { IfErr result (λ fault. (fault ≡ NoMemory) ⊎ NamesFirstBadLine IsPolicyRecord text.now fault) }
     ensures only { IfErr result (λ fault. (line : ℕ) → IsFirstBad IsPolicyRecord text.now line
         → (fault ≡ NoMemory) ⊎ (fault ≡ Bad line)) }
     ensures none { (line : ℕ) (p : PolicyFile) → result ≡ Err (Bad line) → IsPolicyFile p
@@ -71,7 +71,7 @@ fn read_behind_id(
     id: KeyId,
     text: &[u8],
 ) -> Result<PolicyFile, MetaFault>
-    ensures { GivesInMemory (λ p. p) result (behind_id has_options name id.0 text.now) }
+    ensures { GivesInMemory (λ p. p) result (after_id has_options name id.0 text.now) }
 {
     if !has_options {
         let wraps = read_wraps(alloc, text, FOURTH_LINE)?;
@@ -111,7 +111,7 @@ fn head_value(line: &[u8]) -> Option<bool>
 fn options_value(line: &[u8]) -> Option<Options>
     ensures { result ≡ spec.options_value line.now }
 {
-    options_of_words(behind(line, b"options ")?)
+    options_of_words(rest_after(line, b"options ")?)
 }
 
 // The options that two words spell.
@@ -186,7 +186,7 @@ fn add_line(wraps: &mut WrapList, line: &[u8], number: u32) -> Result<(), MetaFa
 fn read_wrap(line: &[u8]) -> Option<Wrap>
     ensures { result ≡ wrap_value line.now }
 {
-    wrap_of_words(behind(line, b"wrap ")?)
+    wrap_of_words(rest_after(line, b"wrap ")?)
 }
 
 // The wrap that four words spell.

@@ -3,10 +3,10 @@
 ghost use Rattle.std.specs.Prelude.{◌≡◌, ◌≢◌, ◌++◌, ◌∷◌, [], IfOk, IfErr, OnOk, Ok, codes, ℕ};
 ghost use Rattle.text_words.specs.Numbers.{decimal_of};
 ghost use Rattle.protector_meta.specs.ProtectorLines as spec;
-ghost use Rattle.protector_meta.specs.ProtectorReading.{behind_descriptor, behind_name, protector_read};
+ghost use Rattle.protector_meta.specs.ProtectorReading.{after_descriptor, after_name, protector_read};
 ghost use Rattle.protector_meta.specs.ProtectorText.{IsKind, IsProtector, IsProtectorRecord};
 ghost use Rattle.protector_meta.specs.ProtectorText.{kind_text, protector_text, stretching_text};
-ghost use Rattle.protector_meta.specs.RecordLines.{IsFirstBad, TellsFirstBad};
+ghost use Rattle.protector_meta.specs.RecordLines.{IsFirstBad, NamesFirstBadLine};
 ghost use Rattle.protector_meta.specs.Stretching.{IsStretching};
 
 use crate::descriptor::Descriptor;
@@ -18,7 +18,7 @@ use item_list::Bytes;
 use short_bytes::Label;
 use std::alloc::{AllocError, Global};
 use text_words::{
-    behind, decimal_value, lower_hex_bytes, nth_word, push_decimal, push_lower_hex, word_count,
+    decimal_value, lower_hex_bytes, nth_word, push_decimal, push_lower_hex, rest_after, word_count,
 };
 
 /// The first line of the record.
@@ -48,7 +48,7 @@ pub fn decode_protector(text: &[u8]) -> Result<Protector, MetaFault>
     ensures read { result ≡ protector_read text.now }
     ensures found { IfOk result (λ p. IsProtector p × (text.now ≡ protector_text p)) }
     ensures every { (p : Protector) → IsProtector p → text.now ≡ protector_text p → result ≡ Ok p }
-    ensures bad { IfErr result (TellsFirstBad IsProtectorRecord text.now) }
+    ensures bad { IfErr result (NamesFirstBadLine IsProtectorRecord text.now) }
     ensures only { IfErr result (λ fault. (line : ℕ) → IsFirstBad IsProtectorRecord text.now line
         → fault ≡ MetaFault.Bad line) }
     ensures none { IfErr result (λ _. (p : Protector) → IsProtector p → text.now ≢ protector_text p) }
@@ -120,20 +120,20 @@ fn kind_value(text: &[u8]) -> Option<ProtectorKind>
     if text == b"raw".as_slice() {
         return Some(ProtectorKind::Raw);
     }
-    let stretching = stretching_value(behind(text, b"pass ")?)?;
+    let stretching = stretching_value(rest_after(text, b"pass ")?)?;
     Some(ProtectorKind::Pass(stretching))
 }
 
 fn kind_line_value(line: &[u8]) -> Option<ProtectorKind>
     ensures { result ≡ spec.kind_line_value line.now }
 {
-    kind_value(behind(line, b"kind ")?)
+    kind_value(rest_after(line, b"kind ")?)
 }
 
 fn descriptor_line_value(line: &[u8]) -> Option<Descriptor>
     ensures { result ≡ spec.descriptor_line_value line.now }
 {
-    Descriptor::read(behind(line, b"descriptor ")?)
+    Descriptor::read(rest_after(line, b"descriptor ")?)
 }
 
 // The first line has no value: it is the same in each record.
@@ -157,7 +157,7 @@ fn read_protector(text: &[u8]) -> Result<Protector, MetaFault>
 
 // The protector of this name, and of the lines after the line of the name.
 fn read_behind_name(name: Label, text: &[u8]) -> Result<Protector, MetaFault>
-    ensures { result ≡ behind_name name text.now }
+    ensures { result ≡ after_name name text.now }
 {
     let (line, rest) = ended_line(text, 3)?;
     let kind = kind_line_value(line).ok_or(MetaFault::Bad { line: 3 })?;
@@ -174,7 +174,7 @@ fn read_wrapping(
     descriptor: Descriptor,
     text: &[u8],
 ) -> Result<Protector, MetaFault>
-    ensures { result ≡ behind_descriptor name kind descriptor text.now }
+    ensures { result ≡ after_descriptor name kind descriptor text.now }
 {
     let (iv, rest) = read_digits(text, b"iv ", 5)?;
     let (key, rest) = read_digits(rest, b"key ", 6)?;

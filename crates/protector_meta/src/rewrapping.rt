@@ -2,7 +2,7 @@
 
 ghost use Rattle.std.specs.Prelude.{◌≡◌, Some};
 ghost use Rattle.key_wrap.specs.Wrapping.{opened_secret};
-ghost use Rattle.protector_meta.specs.Rewrapped.{rewrapped};
+ghost use Rattle.protector_meta.specs.Rewrapped.{rewrapped_protector};
 
 use crate::protector::{Protector, ProtectorKind};
 use key_wrap::{unwrapping_undoes_wrapping, wrap};
@@ -17,7 +17,7 @@ pub fn rewrap(
     wrapping: &[u8; 32],
     iv: &[u8; 16],
 )
-    ensures whole { protector.new ≡ rewrapped protector.old kind wrapping.now iv.now key.now }
+    ensures whole { protector.new ≡ rewrapped_protector protector.old kind wrapping.now iv.now key.now }
     ensures opens { opened_secret wrapping.now protector.new.iv protector.new.key protector.new.tag
         ≡ Some key.now }
 {

@@ -4,7 +4,7 @@ ghost use Rattle.std.specs.Prelude.{◌≡◌, ◌<◌, ◌≤◌, ◌^◌, [], 
 ghost use Rattle.std.specs.Prelude.{IsOk, IsOkUnless, OnOk, OnErr, option_copied, slice_get};
 ghost use Rattle.std.specs.Iterator.Adapters.{IterYieldsInOrder};
 ghost use Rattle.std.specs.Slice.Iter.{iter_rest};
-ghost use Rattle.protector_meta.specs.declared.wraps.TheConstants.{MOST_WRAPS};
+ghost use Rattle.protector_meta.specs.declared.wraps.TheConstants.{MAX_WRAPS};
 ghost use Rattle.protector_meta.specs.declared.wraps.Wrap.{Wrap};
 ghost use Rattle.protector_meta.specs.Wraps.{AreWraps, adding_fault, dropping_fault};
 ghost use Rattle.protector_meta.specs.Wraps.{is_for, is_listed, wrap_for, wraps_without};
@@ -16,7 +16,7 @@ use std::slice;
 use thiserror::Error;
 
 /// The maximal number of wraps of a policy.
-pub const MOST_WRAPS: usize = 16;
+pub const MAX_WRAPS: usize = 16;
 
 /// The key of a policy, wrapped under the key of one protector.
 #[derive(Clone, Copy, Debug, PartialEq, Eq)]
@@ -37,7 +37,7 @@ pub enum WrapFault {
     /// The protector has a wrap already.
     #[error("the protector is listed already")]
     Listed,
-    /// There are `MOST_WRAPS` wraps.
+    /// There are `MAX_WRAPS` wraps.
     #[error("the policy has 16 protectors")]
     Full,
     /// The protector has no wrap.
@@ -62,7 +62,7 @@ impl<T: Drop> From<AllocFailed<T>> for WrapFault {
     }
 }
 
-/// 1 to `MOST_WRAPS` wraps for different protectors, in the order in which they were added. In clauses
+/// 1 to `MAX_WRAPS` wraps for different protectors, in the order in which they were added. In clauses
 /// it is the list of them.
 #[derive(Drop)]
 pub struct WrapList {
@@ -90,10 +90,10 @@ impl WrapList {
         Ok(WrapList { wraps })
     }
 
-    /// Returns the number of wraps, 1 to `MOST_WRAPS`.
+    /// Returns the number of wraps, 1 to `MAX_WRAPS`.
     pub fn len(&self) -> usize
         ensures length { result ≡ length self.now }
-        ensures few { result ≤ MOST_WRAPS }
+        ensures few { result ≤ MAX_WRAPS }
     {
         self.wraps.len()
     }
@@ -130,7 +130,7 @@ impl WrapList {
     }
 
     /// Appends the wrap. Returns `Listed` if its protector has a wrap already, and otherwise `Full` if
-    /// there are `MOST_WRAPS` wraps. Otherwise the only error is `NoMemory`. After an error the wraps are
+    /// there are `MAX_WRAPS` wraps. Otherwise the only error is `NoMemory`. After an error the wraps are
     /// unchanged.
     pub fn add(&mut self, wrap: Wrap) -> Result<(), WrapFault>
         ensures added { OnOk result (self.new ≡ self.old ++ wrap ∷ []) }
@@ -147,14 +147,14 @@ impl WrapList {
     }
 
     /// Returns why no wrap for the protector of this label can be added: `Listed` if it has one already,
-    /// otherwise `Full` if there are `MOST_WRAPS` wraps, and otherwise `None`.
+    /// otherwise `Full` if there are `MAX_WRAPS` wraps, and otherwise `None`.
     pub fn adding_fault(&self, label: &Label) -> Option<WrapFault>
         ensures { result ≡ adding_fault label.now self.now }
     {
         if is_listed(&self.wraps, label) {
             return Some(WrapFault::Listed);
         }
-        if self.wraps.len() >= MOST_WRAPS {
+        if self.wraps.len() >= MAX_WRAPS {
             return Some(WrapFault::Full);
         }
         None

@@ -4,7 +4,7 @@ ghost use Rattle.name_crypt.specs.Plain.{IsPlain};
 
 use crate::linux::expect_nokey;
 use name_crypt::{
-    Aes256, MOST_NAME_BYTES, NameCipher, Plain, PlainFault, Steps, StoredLength, StoredName,
+    Aes256, MAX_NAME_BYTES, NameCipher, Plain, PlainFault, Steps, StoredLength, StoredName,
     decrypt_name, encrypt_into, encrypt_name, is_plain, nokey_matches, nokey_text,
 };
 use policy_ctx::Pad;
@@ -95,16 +95,16 @@ fn start_of_a_node_is_in_the_iv(rt: HostRuntime) {
 }
 
 /// The stored name under the key of these tests, written over zeros, and its length.
-fn written<L: Ledger>(blank: Blank, name: &[u8]) -> ([u8; MOST_NAME_BYTES], usize)
+fn written<L: Ledger>(blank: Blank, name: &[u8]) -> ([u8; MAX_NAME_BYTES], usize)
     requires name { blank.name ≡ L.name }
     requires parts { blank.parts ≡ L.parts }
     requires some { 0 < L.parts }
     requires plain { IsPlain name.now }
-    ensures bound { result.1 ≤ MOST_NAME_BYTES }
+    ensures bound { result.1 ≤ MAX_NAME_BYTES }
 {
     let mut steps = Steps::<L>::new(blank);
     let key = Aes256::new(&KEY);
-    let mut text = [0; MOST_NAME_BYTES];
+    let mut text = [0; MAX_NAME_BYTES];
     let len = encrypt_into(&key, [0; 16], Pad::P4, name, &mut text, &mut steps);
     (text, len)
 }

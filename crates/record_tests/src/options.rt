@@ -2,7 +2,7 @@
 ghost use Rattle.std.specs.Prelude.{◌≤◌};
 
 use crate::protectors::{push_lines, record, with_line};
-use crate::wraps::{DOCS, expect_written, is_at_fault, policy_for, push_wrap};
+use crate::wraps::{DOCS, expect_text, is_at_fault, policy_for, push_wrap};
 use protector_meta::{
     Options, Pad, PolicyFile, Unit, Wrap, add_protector, decode_policy_file, drop_protector,
 };
@@ -19,7 +19,7 @@ static WITH_OPTIONS: [&[u8]; 4] = [
 
 // A record of version 2, with the wraps of DOCS up to this line of it.
 fn record_with_options(alloc: Global, lines: usize) -> Result<Vec<u8>, AllocError>
-    requires behind_head { 3 ≤ lines }
+    requires after_head { 3 ≤ lines }
     requires within { lines ≤ 5 }
 {
     let mut text = record(alloc, &WITH_OPTIONS)?;
@@ -37,7 +37,7 @@ fn wrapped_behind(alloc: Global, number: u32, said: &[u8]) -> Result<Vec<u8>, Al
 // That the policy is written as the record with these lines; else the test fails.
 fn expect_lines<A: Abort>(rt: &A, alloc: Global, policy: &PolicyFile, lines: &[&[u8]]) {
     let record = record(alloc, lines).expect(rt, "memory");
-    expect_written(rt, alloc, policy, &record);
+    expect_text(rt, alloc, policy, &record);
 }
 
 #[test]
@@ -52,7 +52,7 @@ fn options_stand_in_records_of_version_2(rt: HostRuntime) {
         assert!(rt; text.len() == len);
         let mut policy = decode_policy_file(alloc, &text).expect(&rt, "memory");
         assert!(rt; policy.options == Some(options));
-        expect_written(&rt, alloc, &policy, &text);
+        expect_text(&rt, alloc, &policy, &text);
         policy.options = None;
         expect_lines(&rt, alloc, &policy, &DOCS[..lines]);
     }
@@ -79,7 +79,7 @@ fn options_outlast_a_change_of_protectors(rt: HostRuntime) {
     for wrap in others.wraps.iter() {
         add_and_drop(&rt, &mut policy, wrap);
     }
-    expect_written(&rt, alloc, &policy, &text);
+    expect_text(&rt, alloc, &policy, &text);
 }
 
 // The wrap is added after the others, and dropped again.

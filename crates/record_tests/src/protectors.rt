@@ -73,7 +73,7 @@ pub(crate) fn protector_key<A: Abort>(rt: &A, alloc: Global, protector: &Protect
     if let ProtectorKind::Pass(stretching) = &protector.kind {
         let costs = stretching.costs();
         let salt = stretching.salt();
-        let texts = Texts::unkeyed(b"correct horse", salt);
+        let texts = Texts::without_secret(b"correct horse", salt);
         argon2id(alloc, &costs, texts, &mut wrapping).expect(rt, "memory");
     }
     let mut key = [0; 32];
@@ -94,7 +94,7 @@ fn is_at_fault(text: &[u8], at: u32) -> bool {
 }
 
 // That the protector is written as this record; else the test fails.
-fn expect_written<A: Abort>(rt: &A, alloc: Global, protector: &Protector, record: &[u8]) {
+fn expect_text<A: Abort>(rt: &A, alloc: Global, protector: &Protector, record: &[u8]) {
     let text = encode_protector(alloc, protector).expect(rt, "memory");
     expect_same(rt, text.as_slice(), record, "a record");
 }
@@ -107,7 +107,7 @@ fn records_of_a_session_open_to_the_keys_of_their_descriptors(rt: HostRuntime) {
         let protector = decode_protector(&text).expect(&rt, "a protector");
         let key = protector_key(&rt, rt.alloc(), &protector);
         assert!(rt; Descriptor::of_key(&key) == protector.descriptor);
-        expect_written(&rt, rt.alloc(), &protector, &text);
+        expect_text(&rt, rt.alloc(), &protector, &text);
     }
 }
 

@@ -60,7 +60,7 @@ pub(crate) fn is_at_fault(alloc: Global, text: &[u8], at: u32) -> bool {
 }
 
 // That the policy is written as this record; else the test fails.
-pub(crate) fn expect_written<A: Abort>(rt: &A, alloc: Global, policy: &PolicyFile, record: &[u8]) {
+pub(crate) fn expect_text<A: Abort>(rt: &A, alloc: Global, policy: &PolicyFile, record: &[u8]) {
     let text = encode_policy_file(alloc, policy).expect(rt, "memory");
     expect_same(rt, text.as_slice(), record, "a record");
 }
@@ -68,7 +68,7 @@ pub(crate) fn expect_written<A: Abort>(rt: &A, alloc: Global, policy: &PolicyFil
 // That it is written as the record with wraps for these labels.
 fn expect_written_for<A: Abort>(rt: &A, alloc: Global, policy: &PolicyFile, labels: &[u8]) {
     let record = record_for(alloc, labels).expect(rt, "memory");
-    expect_written(rt, alloc, policy, &record);
+    expect_text(rt, alloc, policy, &record);
 }
 
 // The key of the protector whose record has these lines.
@@ -99,7 +99,7 @@ fn wraps_of_a_session_open_to_the_policy_key(rt: HostRuntime) {
         assert!(rt; text.len() == len);
         let policy = decode_policy_file(alloc, &text).expect(&rt, "a policy");
         assert!(rt; policy.wraps.len() == lines - 3 && all_open(&policy, &login, &backup));
-        expect_written(&rt, alloc, &policy, &text);
+        expect_text(&rt, alloc, &policy, &text);
     }
 }
 

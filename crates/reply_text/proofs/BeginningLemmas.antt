@@ -14,7 +14,7 @@ use Rattle.mount_model.specs.History.{MountEntry, History}
 use Rattle.reply_text.specs.Log.{entry_text, log_from, log_text}
 use Rattle.reply_text.specs.Notes.{note_text, notes_text}
 use Rattle.reply_text.specs.Ranges.{EntryIsInRange}
-use Rattle.reply_text.specs.LogLaws.{told, BeginningsTellTheirEntries}
+use Rattle.reply_text.specs.LogLaws.{told, BeginningsDetermineTheirEntries}
 use Rattle.reply_text.specs.declared.notes.Note.{Note}
 use Rattle.reply_text.proofs.LineLemmas.{first_entry, nothing_told}
 
@@ -41,7 +41,7 @@ beginnings_from place (e ∷ g) (f ∷ h) x y long small hg hh same =
     let more = beginnings_from (place + 1) g h x y (omega (arith, long)) (next place (length g) small) (All-tail EntryIsInRange e g hg) (All-tail EntryIsInRange f h hh) parts.1 in
     (joined (told e) (told f) (map told g) (map told h) parts.0 more.0, more.1)
 
-pub beginnings_tell : BeginningsTellTheirEntries
+pub beginnings_tell : BeginningsDetermineTheirEntries
 beginnings_tell g h x y long small hg hh same = beginnings_from 0 g h x y long (omega (arith, small)) hg hh same
 
 -- ---- a log with its notes

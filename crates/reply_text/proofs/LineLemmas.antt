@@ -13,7 +13,7 @@ use Rattle.reply_text.specs.Replies.{reply_text}
 use Rattle.reply_text.specs.Log.{head_text, entry_text, log_from}
 use Rattle.reply_text.specs.Notes.{outcome_word, note_text}
 use Rattle.reply_text.specs.Ranges.{EntryIsInRange}
-use Rattle.reply_text.specs.LogLaws.{told, DifferentRepliesHaveDifferentLines, LinesTellTheirEntries, LogsTellTheirEntries, NoteLinesTellTheirNotes}
+use Rattle.reply_text.specs.LogLaws.{told, DifferentRepliesHaveDifferentLines, LinesDetermineTheirEntries, LogsDetermineTheirEntries, NoteLinesDetermineTheirNotes}
 use Rattle.reply_text.specs.declared.notes.Note.{Note}
 use Rattle.reply_text.specs.declared.outcome.Outcome.{Outcome}
 use Rattle.reply_text.specs.declared.outcome.Outcome.TheVariants.{Done, Refused, Conflict, BadRecord, WrongKind, WrongKey, NotListed, Listed, Full, LastOne, NoMemory, OddReply, Current}
@@ -62,7 +62,7 @@ told_of who uid asked reply = (who, uid, asked, reply)
 told_same : (a b c d : ℕ) (x y : List ℕ) (r s : Reply) → a ≡ b → c ≡ d → x ≡ y → r ≡ s → told_of a c x r ≡ told_of b d y s
 told_same a b c d x y r s h i j k = rw (h, i, j, k) refl
 
-pub lines_tell : LinesTellTheirEntries
+pub lines_tell : LinesDetermineTheirEntries
 lines_tell place other e f hp ho he hf same =
     let fields = sym (entry_text-by_fields place e) ∙ same ∙ entry_text-by_fields other f in
     let places = number_field place other _ _ hp ho no_space no_space fields in
@@ -154,7 +154,7 @@ logs_from place (e ∷ g) (f ∷ h) sg sh hg hh same =
     joined : (a b : ℕ × ℕ × List ℕ × Reply) (x y : List (ℕ × ℕ × List ℕ × Reply)) → a ≡ b → x ≡ y → a ∷ x ≡ b ∷ y
     joined a b x y h i = rw (h, i) refl
 
-pub logs_tell : LogsTellTheirEntries
+pub logs_tell : LogsDetermineTheirEntries
 logs_tell g h sg sh hg hh same = logs_from 0 g h (from_none _ sg) (from_none _ sh) hg hh same
   where
     from_none : (n : ℕ) → n < 2 ^ 64 → 0 + n < 2 ^ 64
@@ -194,7 +194,7 @@ outcome_told-word NoMemory = refl
 outcome_told-word OddReply = refl
 outcome_told-word Current = refl
 
-pub notes_tell : NoteLinesTellTheirNotes
+pub notes_tell : NoteLinesDetermineTheirNotes
 unfolding note_text
 notes_tell a b ha hb same =
     let callers = number_field a.caller b.caller _ _ (wide _ ha.caller) (wide _ hb.caller) no_space no_space (append_cancel_left (codes "note ") _ _ same) in

@@ -4,10 +4,10 @@ use Rattle.std.proofs.lemmas.List.{take_more, length-take-le}
 use Rattle.std.specs.Prelude.{List}
 use Rattle.mount_model.specs.History.{MountEntry, History}
 use Rattle.reply_text.specs.Log.{entry_text, log_from, log_text}
-use Rattle.reply_text.specs.Shown.{ShownEntry, ShownHistory, shown_entry, shown_history, shown_text, shown_from, shown_log}
+use Rattle.reply_text.specs.Logged.{LoggedEntry, LoggedHistory, logged_entry, logged_history, shown_text, shown_from, log_of_history}
 
 -- by the line of the entry after the others
-shown_from-append : (place : ℕ) (h : ShownHistory) (e : ShownEntry) → shown_from place (h ++ e ∷ []) ≡ shown_from place h ++ shown_text (place + length h) e
+shown_from-append : (place : ℕ) (h : LoggedHistory) (e : LoggedEntry) → shown_from place (h ++ e ∷ []) ≡ shown_from place h ++ shown_text (place + length h) e
 unfolding shown_from
 shown_from-append place [] e = append-nil (shown_text place e) ∙ ap (λ n. shown_text n e) (sym (add-zero place))
 shown_from-append place (x ∷ h) e =
@@ -16,7 +16,7 @@ shown_from-append place (x ∷ h) e =
     ∙ sym (append_assoc (shown_text place x) (shown_from (place + 1) h) (shown_text (place + suc (length h)) e))
 
 -- by the line of the entry at a place
-pub shown_from-more : (h : ShownHistory) (place : ℕ) (e : ShownEntry) → place < length h → e ≡ get_or h place e
+pub shown_from-more : (h : LoggedHistory) (place : ℕ) (e : LoggedEntry) → place < length h → e ≡ get_or h place e
     → shown_from 0 (take (place + 1) h) ≡ shown_from 0 (take place h) ++ shown_text place e
 shown_from-more h place e below here =
     let counted : 0 + length (take place h) ≡ place = let n : length (take place h) ≡ place = length-take-le place h (omega arith) in omega arith in
@@ -31,15 +31,15 @@ shown_from-none = refl
 
 -- ---- the shown form of a history
 
-line_shown : (place : ℕ) (e : MountEntry) → shown_text place (shown_entry e) ≡ entry_text place e
+line_shown : (place : ℕ) (e : MountEntry) → shown_text place (logged_entry e) ≡ entry_text place e
 unfolding shown_text entry_text
 line_shown place e = refl
 
-lines_shown : (place : ℕ) (h : History) → shown_from place (shown_history h) ≡ log_from place h
+lines_shown : (place : ℕ) (h : History) → shown_from place (logged_history h) ≡ log_from place h
 unfolding shown_from log_from
 lines_shown place [] = refl
 lines_shown place (e ∷ h) = ap₂ (λ (a b : List ℕ). a ++ b) (line_shown place e) (lines_shown (place + 1) h)
 
 -- the log of the shown form of a history is the history's
-pub log_shown : (h : History) → shown_log (shown_history h) ≡ log_text h
+pub log_shown : (h : History) → log_of_history (logged_history h) ≡ log_text h
 log_shown h = lines_shown 0 h

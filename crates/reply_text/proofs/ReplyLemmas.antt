@@ -47,17 +47,17 @@ IsField-kind Dir = field_literal (codes "dir") refl
 IsField-kind File = field_literal (codes "file") refl
 IsField-kind Link = field_literal (codes "link") refl
 
-kind_told : List ℕ → NodeKind
-kind_told text = if bytes_eq text (codes "dir") then Dir else if bytes_eq text (codes "file") then File else Link
+kind_of_word : List ℕ → NodeKind
+kind_of_word text = if bytes_eq text (codes "dir") then Dir else if bytes_eq text (codes "file") then File else Link
 
-kind_told-text : (kind : NodeKind) → kind_told (kind_text kind) ≡ kind
-unfolding kind_told
-kind_told-text Dir = refl
-kind_told-text File = refl
-kind_told-text Link = refl
+kind_of_word-text : (kind : NodeKind) → kind_of_word (kind_text kind) ≡ kind
+unfolding kind_of_word
+kind_of_word-text Dir = refl
+kind_of_word-text File = refl
+kind_of_word-text Link = refl
 
 kind_text-injective : (a b : NodeKind) → kind_text a ≡ kind_text b → a ≡ b
-kind_text-injective a b e = sym (kind_told-text a) ∙ ap kind_told e ∙ kind_told-text b
+kind_text-injective a b e = sym (kind_of_word-text a) ∙ ap kind_of_word e ∙ kind_of_word-text b
 
 -- the refusal of a text; one that begins with `c` has a version
 refusal_told : List ℕ → Refusal

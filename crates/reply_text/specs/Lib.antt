@@ -7,4 +7,4 @@ pub mod Notes
 pub mod CallRange
 pub mod Ranges
 pub mod LogLaws
-pub mod Shown
+pub mod Logged

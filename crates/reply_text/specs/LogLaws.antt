@@ -22,26 +22,26 @@ DifferentRepliesHaveDifferentLines =
     → a ≡ b
 
 -- a line determines the place and these values of the entry
-abbrev pub LinesTellTheirEntries : Type 0
-LinesTellTheirEntries =
+abbrev pub LinesDetermineTheirEntries : Type 0
+LinesDetermineTheirEntries =
     (place other : ℕ) (e f : MountEntry) → place < 2 ^ 64 → other < 2 ^ 64
     → EntryIsInRange e → EntryIsInRange f
     → entry_text place e ≡ entry_text other f → (place ≡ other) × (told e ≡ told f)
 
 -- a log determines these values of its entries, one after the other
-abbrev pub LogsTellTheirEntries : Type 0
-LogsTellTheirEntries =
+abbrev pub LogsDetermineTheirEntries : Type 0
+LogsDetermineTheirEntries =
     (g h : History) → length g < 2 ^ 64 → length h < 2 ^ 64 → All EntryIsInRange g → All EntryIsInRange h
     → log_text g ≡ log_text h → map told g ≡ map told h
 
 -- a beginning of a text that is a log of that many entries determines their values, and what follows it
-abbrev pub BeginningsTellTheirEntries : Type 0
-BeginningsTellTheirEntries =
+abbrev pub BeginningsDetermineTheirEntries : Type 0
+BeginningsDetermineTheirEntries =
     (g h : History) (x y : List ℕ) → length g ≡ length h → length g < 2 ^ 64
     → All EntryIsInRange g → All EntryIsInRange h
     → log_text g ++ x ≡ log_text h ++ y → (map told g ≡ map told h) × (x ≡ y)
 
 -- a note's line determines the note
-abbrev pub NoteLinesTellTheirNotes : Type 0
-NoteLinesTellTheirNotes =
+abbrev pub NoteLinesDetermineTheirNotes : Type 0
+NoteLinesDetermineTheirNotes =
     (a b : Note) → NoteIsInRange a → NoteIsInRange b → note_text a ≡ note_text b → a ≡ b

@@ -3,11 +3,11 @@
 ghost use Rattle.std.specs.Prelude.{◌≡◌, ◌++◌, codes, IfOk, OnOk};
 ghost use Rattle.reply_text.specs.Log.{entry_text};
 ghost use Rattle.reply_text.specs.Replies.{reply_text};
-ghost use Rattle.reply_text.specs.Shown.{line_head, shown_text, shown_log};
+ghost use Rattle.reply_text.specs.Logged.{line_head, shown_text, log_of_history};
 
 use crate::calls::put_call;
+use crate::logged::LoggedCall;
 use crate::replies::put_reply;
-use crate::shown::Shown;
 use call_history::Entry;
 use item_list::Bytes;
 use mount_model::{Call, Reply};
@@ -34,8 +34,8 @@ pub fn entry_line(
 
 /// Returns the bytes of a history's log, given the shown form of each call: a line for each entry, in
 /// order of place. Places count from 0.
-pub fn write_log(alloc: Global, history: &[Entry<Shown, Reply>]) -> Result<Bytes, AllocError>
-    ensures { IfOk result (λ text. text ≡ shown_log history.now) }
+pub fn write_log(alloc: Global, history: &[Entry<LoggedCall, Reply>]) -> Result<Bytes, AllocError>
+    ensures { IfOk result (λ text. text ≡ log_of_history history.now) }
 {
     let mut text = Vec::new(alloc);
     'entries: for (place, entry) in history.iter().enumerate() {
@@ -45,8 +45,12 @@ pub fn write_log(alloc: Global, history: &[Entry<Shown, Reply>]) -> Result<Bytes
 }
 
 // Appends the line of a shown entry at a place to the text.
-#[tactic(auto, unfolding(crate::specs::Shown::shown_text))]
-fn put_shown(text: &mut Vec<u8>, place: u64, entry: &Entry<Shown, Reply>) -> Result<(), AllocError>
+#[tactic(auto, unfolding(crate::specs::Logged::shown_text))]
+fn put_shown(
+    text: &mut Vec<u8>,
+    place: u64,
+    entry: &Entry<LoggedCall, Reply>,
+) -> Result<(), AllocError>
     ensures { OnOk result (text.new.items ≡ text.old.items ++ shown_text place entry.now) }
 {
     put_head(text, place, entry.who, entry.call.uid)?;

@@ -9,8 +9,8 @@ use Rattle.text_words.specs.Lines.{pieces_of, is_line_feed}
 use Rattle.script_lang.specs.Sections.{is_caller, may_stand, first_misplaced_line, sections_of}
 use Rattle.script_lang.specs.Statements.{statement_of}
 use Rattle.script_lang.specs.Script.{statements_in, statements_of, parsed_script}
-use Rattle.script_faults.specs.LineFaults.{fault_of_said, fault_behind, callers_with, fault_from, first_fault}
-use Rattle.script_lang.specs.declared.limits.TheConstants.{MOST_CALLERS}
+use Rattle.script_faults.specs.LineFaults.{fault_of_statement, fault_after, callers_with, fault_from, first_fault}
+use Rattle.script_lang.specs.declared.limits.TheConstants.{MAX_CALLERS}
 use Rattle.script_faults.specs.declared.faults.LineFault.{LineFault}
 use Rattle.script_faults.specs.declared.faults.LineFault.TheVariants as fault
 use Rattle.script_faults.specs.declared.faults.FaultyLine.{FaultyLine}
@@ -26,12 +26,12 @@ number_of_line found = option_map (λ found. found.line) found
 -- result
 at_line : (n callers : ℕ) (line : List ℕ) (said : Option Statement) (rest : ℕ → Option FaultyLine) (bad : ℕ → Option ℕ)
     → ((c : ℕ) → number_of_line (rest c) ≡ bad c)
-    → number_of_line (option_map_or (λ found. Some (record { line = n; fault = found })) (fault_of_said callers line said) (rest (if is_caller said then callers + 1 else callers)))
+    → number_of_line (option_map_or (λ found. Some (record { line = n; fault = found })) (fault_of_statement callers line said) (rest (if is_caller said then callers + 1 else callers)))
     ≡ (if may_stand callers said then bad (if is_caller said then callers + 1 else callers) else Some n)
 at_line n callers line None rest bad same = refl
 at_line n callers line (Some Nothing) rest bad same = same callers
 at_line n callers line (Some (Caller uid)) rest bad same =
-    elim (cases_Bool (nat_lt callers MOST_CALLERS)) [
+    elim (cases_Bool (nat_lt callers MAX_CALLERS)) [
       | inl room ↦ rw room (same (callers + 1))
       | inr other ↦ rw other refl
     ]
@@ -66,31 +66,31 @@ first_fault-number text =
 -- ---- from line to line
 
 fault_from-line : (n callers : ℕ) (line text : List ℕ) → fault_from n callers (line ∷ pieces_of text)
-    ≡ option_map_or (λ found. Some (record { line = n; fault = found })) (fault_behind callers line) (fault_from (n + 1) (callers_with callers line) (pieces_of text))
+    ≡ option_map_or (λ found. Some (record { line = n; fault = found })) (fault_after callers line) (fault_from (n + 1) (callers_with callers line) (pieces_of text))
 unfolding fault_from
 fault_from-line n callers line text = by_pieces (pieces_of text) (let e = length-slice_split is_line_feed text in omega arith)
   where
     by_pieces : (pieces : List (List ℕ)) → 0 < length pieces → fault_from n callers (line ∷ pieces)
-        ≡ option_map_or (λ found. Some (record { line = n; fault = found })) (fault_behind callers line) (fault_from (n + 1) (callers_with callers line) pieces)
+        ≡ option_map_or (λ found. Some (record { line = n; fault = found })) (fault_after callers line) (fault_from (n + 1) (callers_with callers line) pieces)
     by_pieces [] some = absurd (omega arith)
     by_pieces (next ∷ more) some = refl
 
 -- after a line without fault the search continues with the rest
 pub fault_passed : (n callers after : ℕ) (text line rest : List ℕ) (found : Option FaultyLine) (passed : Result ℕ LineFault)
     → found ≡ fault_from n callers (pieces_of text) → pieces_of text ≡ line ∷ pieces_of rest
-    → passed ≡ Ok after → result_err passed ≡ fault_behind callers line → after ≡ callers_with callers line
+    → passed ≡ Ok after → result_err passed ≡ fault_after callers line → after ≡ callers_with callers line
     → found ≡ fault_from (n + 1) after (pieces_of rest)
 fault_passed n callers after text line rest found passed told cut is none more =
-    let no_fault : fault_behind callers line ≡ None = sym none ∙ ap result_err is in
+    let no_fault : fault_after callers line ≡ None = sym none ∙ ap result_err is in
     told ∙ rw (cut, fault_from-line n callers line rest, no_fault, more) refl
 
 -- a fault is the result
 pub fault_met : (n callers : ℕ) (text line rest : List ℕ) (found : Option FaultyLine) (why : LineFault) (passed : Result ℕ LineFault)
     → found ≡ fault_from n callers (pieces_of text) → pieces_of text ≡ line ∷ pieces_of rest
-    → passed ≡ Err why → result_err passed ≡ fault_behind callers line
+    → passed ≡ Err why → result_err passed ≡ fault_after callers line
     → Some (record { line = n; fault = why }) ≡ found
 fault_met n callers text line rest found why passed told cut is some =
-    let a_fault : fault_behind callers line ≡ Some why = sym some ∙ ap result_err is in
+    let a_fault : fault_after callers line ≡ Some why = sym some ∙ ap result_err is in
     sym (told ∙ rw (cut, fault_from-line n callers line rest, a_fault) refl)
 
 unended_at : (n callers : ℕ) (last : List ℕ) → 0 < length last → fault_from n callers (last ∷ []) ≡ Some (record { line = n; fault = fault.NotEnded })

@@ -13,10 +13,10 @@ use Rattle.script_words.specs.Secrets.{secret_of}
 use Rattle.script_words.specs.NewSecrets.{new_secret_of}
 use Rattle.script_words.specs.Word.{target_bytes}
 use Rattle.script_words.specs.Path.{path_of}
-use Rattle.script_lang.specs.Forms.{Form, word, says, optional, if_read}
+use Rattle.script_lang.specs.Forms.{Form, word, says, optional, if_no_word_left}
 use Rattle.script_lang.specs.SettingForms.{settings, options}
 use Rattle.script_lang.specs.Commands.{form_of, command_named}
-use Rattle.script_lang.specs.declared.limits.TheConstants.{MOST_ADDED_BYTES, MOST_WRITTEN_BYTES, MOST_FILLED_BYTES, MOST_PUT_BYTES, POLICY_BYTES}
+use Rattle.script_lang.specs.declared.limits.TheConstants.{MAX_ADDED_BYTES, MAX_WRITTEN_BYTES, MAX_FILLED_BYTES, MAX_PUT_BYTES, POLICY_BYTES}
 use Rattle.script_lang.specs.declared.names.CommandName.{CommandName}
 use Rattle.script_lang.specs.declared.names.CommandName.TheVariants as name
 use Rattle.script_faults.specs.WordKinds.{kinds_of}
@@ -153,7 +153,7 @@ told_said_options words = told_optional options kind.Pad (kind.Unit ∷ []) word
 
 -- the kinds that the words after a name must be of
 form_of-told : (name : CommandName) (words : List (List ℕ)) → Told (kinds_of name) words (form_of name words)
-form_of-told name.AddKey words = told_word kind.AddedBytes (hex_of_size 1 MOST_ADDED_BYTES) _ [] (λ w. refl) (λ a rest. ends rest) words
+form_of-told name.AddKey words = told_word kind.AddedBytes (hex_of_size 1 MAX_ADDED_BYTES) _ [] (λ w. refl) (λ a rest. ends rest) words
 form_of-told name.RemoveKey words = told_word kind.Key key_ref_of _ [] (λ w. refl) (λ a rest. ends rest) words
 form_of-told name.RemoveKeyAll words = told_word kind.Key key_ref_of _ [] (λ w. refl) (λ a rest. ends rest) words
 form_of-told name.KeyStatus words = told_word kind.Key key_ref_of _ [] (λ w. refl) (λ a rest. ends rest) words
@@ -172,11 +172,11 @@ form_of-told name.Stat words = told_word kind.Path path_of _ [] (λ w. refl) (λ
 form_of-told name.Open words = told_word kind.Path path_of _ [] (λ w. refl) (λ a rest. ends rest) words
 form_of-told name.Close words = told_word kind.Number number_of _ [] (λ w. refl) (λ a rest. ends rest) words
 form_of-told name.Read words = told_word kind.Number number_of _ (kind.Number ∷ kind.Number ∷ []) (λ w. refl) (λ a rest. told_word kind.Number number_of _ (kind.Number ∷ []) (λ w. refl) (λ a rest. told_word kind.Number number_of _ [] (λ w. refl) (λ a rest. ends rest) rest) rest) words
-form_of-told name.Write words = told_word kind.Number number_of _ (kind.Number ∷ kind.WrittenBytes ∷ []) (λ w. refl) (λ a rest. told_word kind.Number number_of _ (kind.WrittenBytes ∷ []) (λ w. refl) (λ a rest. told_word kind.WrittenBytes (hex_or_none MOST_WRITTEN_BYTES) _ [] (λ w. refl) (λ a rest. ends rest) rest) rest) words
-form_of-told name.Fill words = told_word kind.Number number_of _ (kind.Number ∷ kind.FilledLength ∷ kind.Byte ∷ []) (λ w. refl) (λ a rest. told_word kind.Number number_of _ (kind.FilledLength ∷ kind.Byte ∷ []) (λ w. refl) (λ a rest. told_word kind.FilledLength (number_up_to MOST_FILLED_BYTES) _ (kind.Byte ∷ []) (λ w. refl) (λ a rest. told_word kind.Byte (number_up_to 255) _ [] (λ w. refl) (λ a rest. ends rest) rest) rest) rest) words
+form_of-told name.Write words = told_word kind.Number number_of _ (kind.Number ∷ kind.WrittenBytes ∷ []) (λ w. refl) (λ a rest. told_word kind.Number number_of _ (kind.WrittenBytes ∷ []) (λ w. refl) (λ a rest. told_word kind.WrittenBytes (hex_or_none MAX_WRITTEN_BYTES) _ [] (λ w. refl) (λ a rest. ends rest) rest) rest) words
+form_of-told name.Fill words = told_word kind.Number number_of _ (kind.Number ∷ kind.FilledLength ∷ kind.Byte ∷ []) (λ w. refl) (λ a rest. told_word kind.Number number_of _ (kind.FilledLength ∷ kind.Byte ∷ []) (λ w. refl) (λ a rest. told_word kind.FilledLength (number_up_to MAX_FILLED_BYTES) _ (kind.Byte ∷ []) (λ w. refl) (λ a rest. told_word kind.Byte (number_up_to 255) _ [] (λ w. refl) (λ a rest. ends rest) rest) rest) rest) words
 form_of-told name.DropCaches words = ends words
 form_of-told name.MetaGet words = told_word kind.Record record_of _ [] (λ w. refl) (λ a rest. ends rest) words
-form_of-told name.MetaPut words = told_word kind.Record record_of _ (kind.Number ∷ kind.PutBytes ∷ []) (λ w. refl) (λ a rest. told_word kind.Number number_of _ (kind.PutBytes ∷ []) (λ w. refl) (λ a rest. told_word kind.PutBytes (hex_or_none MOST_PUT_BYTES) _ [] (λ w. refl) (λ a rest. ends rest) rest) rest) words
+form_of-told name.MetaPut words = told_word kind.Record record_of _ (kind.Number ∷ kind.PutBytes ∷ []) (λ w. refl) (λ a rest. told_word kind.Number number_of _ (kind.PutBytes ∷ []) (λ w. refl) (λ a rest. told_word kind.PutBytes (hex_or_none MAX_PUT_BYTES) _ [] (λ w. refl) (λ a rest. ends rest) rest) rest) words
 form_of-told name.Protector words = told_word kind.Label label_of _ (kind.NewSecret ∷ []) (λ w. refl) (λ a rest. told_word kind.NewSecret new_secret_of _ [] (λ w. refl) (λ a rest. ends rest) rest) words
 form_of-told name.ProtectorChange words = told_word kind.Label label_of _ (kind.Secret ∷ kind.NewSecret ∷ []) (λ w. refl) (λ a rest. told_word kind.Secret secret_of _ (kind.NewSecret ∷ []) (λ w. refl) (λ a rest. told_word kind.NewSecret new_secret_of _ [] (λ w. refl) (λ a rest. ends rest) rest) rest) words
 form_of-told name.ProtectorLink words = told_word kind.Label label_of _ [] (λ w. refl) (λ a rest. ends rest) words
@@ -193,11 +193,11 @@ form_of-told name.Pause words = ends words
 -- ---- whole commands
 
 of_read : {A : Type 0} (kinds : List WordKind) (words : List (List ℕ)) (read : Option (A × List (List ℕ))) → Took kinds words read
-    → is_some (option_and_then if_read read) ≡ true → are_of words kinds ≡ true
+    → is_some (option_and_then if_no_word_left read) ≡ true → are_of words kinds ≡ true
 of_read kinds words None took some = absurd (false≢true some)
 of_read {A = A} kinds words (Some x) took some = by_left x.0 x.1 took some
   where
-    by_left : (a : A) (left : List (List ℕ)) → Took kinds words (Some (a, left)) → is_some (if_read (a, left)) ≡ true → are_of words kinds ≡ true
+    by_left : (a : A) (left : List (List ℕ)) → Took kinds words (Some (a, left)) → is_some (if_no_word_left (a, left)) ≡ true → are_of words kinds ≡ true
     by_left a [] took some =
         let fits : are_of words (kinds ++ []) ≡ true = took [] refl in
         rw (append-nil kinds) at fits
@@ -215,11 +215,11 @@ all_taken (wanted ∷ kinds) (w ∷ words) same fits =
     let parts = and_parts (is_one wanted w) (are_of words kinds) fits in
     rw parts.0 (all_taken kinds words (omega arith) parts.1)
 
-whole_read : {A : Type 0} (read : Option (A × List (List ℕ))) → option_map (λ x. x.1) read ≡ Some [] → is_some (option_and_then if_read read) ≡ true
+whole_read : {A : Type 0} (read : Option (A × List (List ℕ))) → option_map (λ x. x.1) read ≡ Some [] → is_some (option_and_then if_no_word_left read) ≡ true
 whole_read None none = absurd (false≢true (ap is_some none))
 whole_read {A = A} (Some x) none = by_left x.0 x.1 (ap (λ o. unwrap_or o []) none)
   where
-    by_left : (a : A) (left : List (List ℕ)) → left ≡ [] → is_some (if_read (a, left)) ≡ true
+    by_left : (a : A) (left : List (List ℕ)) → left ≡ [] → is_some (if_no_word_left (a, left)) ≡ true
     by_left a left none = rw none refl
 
 pub commands_of_words : (name : CommandName) (words : List (List ℕ)) → length words ≡ length (kinds_of name) → are_of words (kinds_of name) ≡ true

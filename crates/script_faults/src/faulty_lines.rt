@@ -10,7 +10,7 @@ ghost use Rattle.text_words.specs.Lines.{pieces_of};
 
 use crate::faults::{BYTE_ORDER_MARK, FaultyLine, LineFault};
 use crate::word_kinds::{WordKind, kinds_of};
-use script_lang::{CommandName, MOST_CALLERS, Statement, Words, read_statement};
+use script_lang::{CommandName, MAX_CALLERS, Statement, Words, read_statement};
 use std::alloc::{AllocError, Global};
 use text_words::next_line;
 
@@ -21,13 +21,13 @@ pub fn line_fault(alloc: Global, text: &[u8]) -> Result<Option<FaultyLine>, Allo
     requires { length text.now < 2 ^ 32 }
     ensures value { IfOk result (λ found. found ≡ first_fault text.now) }
 {
-    line_fault_behind(alloc, 0, 0, text)
+    line_fault_after(alloc, 0, 0, text)
 }
 
 /// Returns the first line at fault of a text after `lines` lines, among which `before` callers begin, and
 /// the cause. So a caller continues after a line that it was given. The one error is out of memory, which
 /// is possible for any text.
-pub fn line_fault_behind(
+pub fn line_fault_after(
     alloc: Global,
     lines: u32,
     before: usize,
@@ -71,12 +71,12 @@ fn pass_line(
     line: &[u8],
 ) -> Result<Result<usize, LineFault>, AllocError>
     requires { callers < 2 ^ 32 }
-    ensures fault { IfOk result (λ passed. result_err passed ≡ spec.fault_behind callers line.now) }
+    ensures fault { IfOk result (λ passed. result_err passed ≡ spec.fault_after callers line.now) }
     ensures callers { IfOk result (λ passed.
         IfOk passed (λ after. after ≡ spec.callers_with callers line.now)) }
 {
     let said = read_statement(alloc, line)?;
-    match fault_of_said(alloc, callers, line, &said)? {
+    match fault_of_statement(alloc, callers, line, &said)? {
         Some(fault) => Ok(Err(fault)),
         None => Ok(Ok(callers_with(callers, &said))),
     }
@@ -94,19 +94,19 @@ fn callers_with(callers: usize, said: &Option<Statement>) -> usize
 }
 
 // Why a line of this statement is at fault after that many callers.
-fn fault_of_said(
+fn fault_of_statement(
     alloc: Global,
     callers: usize,
     line: &[u8],
     said: &Option<Statement>,
 ) -> Result<Option<LineFault>, AllocError>
-    ensures { IfOk result (λ fault. fault ≡ spec.fault_of_said callers line.now said.now) }
+    ensures { IfOk result (λ fault. fault ≡ spec.fault_of_statement callers line.now said.now) }
 {
     match said {
         None => Ok(Some(grammar_fault(alloc, line)?)),
         Some(Statement::Nothing) => Ok(None),
         Some(Statement::Caller(_)) => {
-            if callers < MOST_CALLERS {
+            if callers < MAX_CALLERS {
                 return Ok(None);
             }
             Ok(Some(LineFault::NinthCaller))

@@ -5,8 +5,7 @@ ghost use Rattle.script_faults.specs.WordKinds as spec;
 ghost use Rattle.script_faults.specs.WordTests as tests;
 
 use script_lang::{
-    CommandName, MOST_ADDED_BYTES, MOST_FILLED_BYTES, MOST_PUT_BYTES, MOST_WRITTEN_BYTES,
-    POLICY_BYTES,
+    CommandName, MAX_ADDED_BYTES, MAX_FILLED_BYTES, MAX_PUT_BYTES, MAX_WRITTEN_BYTES, POLICY_BYTES,
 };
 use script_words::{
     read_byte, read_hex, read_hex_or_none, read_key_ref, read_new_secret, read_number_up_to,
@@ -61,7 +60,7 @@ impl WordKind {
     {
         match self {
             WordKind::Number => Ok(decimal_value(word).is_some()),
-            WordKind::FilledLength => Ok(read_number_up_to(word, MOST_FILLED_BYTES).is_some()),
+            WordKind::FilledLength => Ok(read_number_up_to(word, MAX_FILLED_BYTES).is_some()),
             WordKind::Byte => Ok(read_byte(word).is_some()),
             WordKind::Pad => Ok(read_pad(word).is_some()),
             WordKind::Unit => Ok(read_unit(word).is_some()),
@@ -71,11 +70,11 @@ impl WordKind {
             WordKind::PolicyBytes => Ok(hex_bytes::<POLICY_BYTES>(word).is_some()),
             WordKind::Path => Ok(read_path(alloc, word)?.is_some()),
             WordKind::Target => Ok(read_target(alloc, word)?.is_some()),
-            WordKind::AddedBytes => Ok(read_hex(alloc, word, 1, MOST_ADDED_BYTES)?.is_some()),
+            WordKind::AddedBytes => Ok(read_hex(alloc, word, 1, MAX_ADDED_BYTES)?.is_some()),
             WordKind::WrittenBytes => {
-                Ok(read_hex_or_none(alloc, word, MOST_WRITTEN_BYTES)?.is_some())
+                Ok(read_hex_or_none(alloc, word, MAX_WRITTEN_BYTES)?.is_some())
             }
-            WordKind::PutBytes => Ok(read_hex_or_none(alloc, word, MOST_PUT_BYTES)?.is_some()),
+            WordKind::PutBytes => Ok(read_hex_or_none(alloc, word, MAX_PUT_BYTES)?.is_some()),
             WordKind::Secret => Ok(read_secret(alloc, word)?.is_some()),
             WordKind::NewSecret => Ok(read_new_secret(alloc, word)?.is_some()),
         }

@@ -11,11 +11,11 @@ use Rattle.script_words.specs.Secrets.{secret_of, IsSecret}
 use Rattle.script_words.specs.NewSecrets.{new_secret_of, IsNewSecret}
 use Rattle.script_words.specs.Word.{IsWord, may_be_target, target_bytes}
 use Rattle.script_words.specs.Path.{IsPath, path_of}
-use Rattle.script_lang.specs.Forms.{Form, word, only, optional, if_read, whole}
+use Rattle.script_lang.specs.Forms.{Form, word, only, optional, if_no_word_left, whole}
 use Rattle.script_lang.specs.SettingForms.{settings, options}
 use Rattle.script_lang.specs.Commands.{form_of, command_named}
-use Rattle.script_lang.specs.Asked.{IsAskable}
-use Rattle.script_lang.specs.declared.limits.TheConstants.{MOST_ADDED_BYTES, MOST_WRITTEN_BYTES, MOST_FILLED_BYTES, MOST_PUT_BYTES, POLICY_BYTES}
+use Rattle.script_lang.specs.CommandTasks.{IsAskable}
+use Rattle.script_lang.specs.declared.limits.TheConstants.{MAX_ADDED_BYTES, MAX_WRITTEN_BYTES, MAX_FILLED_BYTES, MAX_PUT_BYTES, POLICY_BYTES}
 use Rattle.script_lang.specs.declared.names.CommandName.{CommandName}
 use Rattle.script_lang.specs.declared.names.CommandName.TheVariants as name
 use Rattle.script_words.proofs.WordSpells.{chosen_some, mapped_some, then_some, number_of-small, number_up_to-le, hex_of_size-bytes, hex_or_none-few, hex_bytes_of_length-bytes, key_ref_of-key, label_of-label, record_of-record, path_of-path, target_bytes-target, secret_of-secret, anything, new_secret_of-secret}
@@ -39,12 +39,12 @@ optional_some P form h words =
     chosen_some (λ x. IfSome x.0 P) (length words == 0) (Some (None, words)) _ tt
     (then_some (λ x. P x.0) (λ x. IfSome x.0 P) _ (form words) (h words) (λ x hx. hx))
 
-if_read-some : {A : Type 0} (P : A → Type 0) (x : A × List (List ℕ)) → P x.0 → IfSome (if_read x) P
+if_read-some : {A : Type 0} (P : A → Type 0) (x : A × List (List ℕ)) → P x.0 → IfSome (if_no_word_left x) P
 if_read-some P x h = chosen_some P (length x.1 == 0) (Some x.0) None h tt
 
 -- what the words after a name spell
 form_of-askable : (name : CommandName) (words : List (List ℕ)) → IfSome (form_of name words) (λ x. IsAskable x.0)
-form_of-askable name.AddKey words = only_some (λ (bytes : List ℕ). (1 ≤ length bytes) × ((length bytes ≤ MOST_ADDED_BYTES) × IsBytes bytes)) IsAskable _ (hex_of_size 1 MOST_ADDED_BYTES) (hex_of_size-bytes 1 MOST_ADDED_BYTES) (λ a h. h) words
+form_of-askable name.AddKey words = only_some (λ (bytes : List ℕ). (1 ≤ length bytes) × ((length bytes ≤ MAX_ADDED_BYTES) × IsBytes bytes)) IsAskable _ (hex_of_size 1 MAX_ADDED_BYTES) (hex_of_size-bytes 1 MAX_ADDED_BYTES) (λ a h. h) words
 form_of-askable name.RemoveKey words = only_some IsKey IsAskable _ key_ref_of key_ref_of-key (λ a h. h) words
 form_of-askable name.RemoveKeyAll words = only_some IsKey IsAskable _ key_ref_of key_ref_of-key (λ a h. h) words
 form_of-askable name.KeyStatus words = only_some IsKey IsAskable _ key_ref_of key_ref_of-key (λ a h. h) words
@@ -86,12 +86,12 @@ form_of-askable name.Read words =
 form_of-askable name.Write words =
     then_some (λ x. IsNumber x.0) (λ x. IsAskable x.0) _ (word number_of words) (word_some IsNumber number_of number_of-small words) (λ x0 h0.
     then_some (λ x. IsNumber x.0) (λ x. IsAskable x.0) _ (word number_of x0.1) (word_some IsNumber number_of number_of-small x0.1) (λ x1 h1.
-    then_some (λ x. (λ (bytes : List ℕ). AreFewBytes bytes MOST_WRITTEN_BYTES) x.0) (λ x. IsAskable x.0) _ (word (hex_or_none MOST_WRITTEN_BYTES) x1.1) (word_some (λ (bytes : List ℕ). AreFewBytes bytes MOST_WRITTEN_BYTES) (hex_or_none MOST_WRITTEN_BYTES) (hex_or_none-few MOST_WRITTEN_BYTES) x1.1) (λ x2 h2.
+    then_some (λ x. (λ (bytes : List ℕ). AreFewBytes bytes MAX_WRITTEN_BYTES) x.0) (λ x. IsAskable x.0) _ (word (hex_or_none MAX_WRITTEN_BYTES) x1.1) (word_some (λ (bytes : List ℕ). AreFewBytes bytes MAX_WRITTEN_BYTES) (hex_or_none MAX_WRITTEN_BYTES) (hex_or_none-few MAX_WRITTEN_BYTES) x1.1) (λ x2 h2.
     (h0, (h1, h2)))))
 form_of-askable name.Fill words =
     then_some (λ x. IsNumber x.0) (λ x. IsAskable x.0) _ (word number_of words) (word_some IsNumber number_of number_of-small words) (λ x0 h0.
     then_some (λ x. IsNumber x.0) (λ x. IsAskable x.0) _ (word number_of x0.1) (word_some IsNumber number_of number_of-small x0.1) (λ x1 h1.
-    then_some (λ x. (λ (n : ℕ). n ≤ MOST_FILLED_BYTES) x.0) (λ x. IsAskable x.0) _ (word (number_up_to MOST_FILLED_BYTES) x1.1) (word_some (λ (n : ℕ). n ≤ MOST_FILLED_BYTES) (number_up_to MOST_FILLED_BYTES) (number_up_to-le MOST_FILLED_BYTES) x1.1) (λ x2 h2.
+    then_some (λ x. (λ (n : ℕ). n ≤ MAX_FILLED_BYTES) x.0) (λ x. IsAskable x.0) _ (word (number_up_to MAX_FILLED_BYTES) x1.1) (word_some (λ (n : ℕ). n ≤ MAX_FILLED_BYTES) (number_up_to MAX_FILLED_BYTES) (number_up_to-le MAX_FILLED_BYTES) x1.1) (λ x2 h2.
     then_some (λ x. (λ (n : ℕ). n ≤ 255) x.0) (λ x. IsAskable x.0) _ (word (number_up_to 255) x2.1) (word_some (λ (n : ℕ). n ≤ 255) (number_up_to 255) (number_up_to-le 255) x2.1) (λ x3 h3.
     (h0, (h1, (h2, h3)))))))
 form_of-askable name.DropCaches words = tt
@@ -99,7 +99,7 @@ form_of-askable name.MetaGet words = only_some IsRecord IsAskable _ record_of re
 form_of-askable name.MetaPut words =
     then_some (λ x. IsRecord x.0) (λ x. IsAskable x.0) _ (word record_of words) (word_some IsRecord record_of record_of-record words) (λ x0 h0.
     then_some (λ x. IsNumber x.0) (λ x. IsAskable x.0) _ (word number_of x0.1) (word_some IsNumber number_of number_of-small x0.1) (λ x1 h1.
-    then_some (λ x. (λ (bytes : List ℕ). AreFewBytes bytes MOST_PUT_BYTES) x.0) (λ x. IsAskable x.0) _ (word (hex_or_none MOST_PUT_BYTES) x1.1) (word_some (λ (bytes : List ℕ). AreFewBytes bytes MOST_PUT_BYTES) (hex_or_none MOST_PUT_BYTES) (hex_or_none-few MOST_PUT_BYTES) x1.1) (λ x2 h2.
+    then_some (λ x. (λ (bytes : List ℕ). AreFewBytes bytes MAX_PUT_BYTES) x.0) (λ x. IsAskable x.0) _ (word (hex_or_none MAX_PUT_BYTES) x1.1) (word_some (λ (bytes : List ℕ). AreFewBytes bytes MAX_PUT_BYTES) (hex_or_none MAX_PUT_BYTES) (hex_or_none-few MAX_PUT_BYTES) x1.1) (λ x2 h2.
     (h0, (h1, h2)))))
 form_of-askable name.Protector words =
     then_some (λ x. IsLabel x.0) (λ x. IsAskable x.0) _ (word label_of words) (word_some IsLabel label_of label_of-label words) (λ x0 h0.
@@ -146,9 +146,9 @@ form_of-askable name.Pause words = tt
 pub command_named-askable : (name : CommandName) (words : List (List ℕ)) → IfSome (command_named name words) IsAskable
 unfolding command_named
 command_named-askable name words =
-    then_some (λ x. IsAskable x.0) IsAskable if_read (form_of name words) (form_of-askable name words) (λ x h. if_read-some IsAskable x h)
+    then_some (λ x. IsAskable x.0) IsAskable if_no_word_left (form_of name words) (form_of-askable name words) (λ x h. if_read-some IsAskable x h)
 
 -- the number of a caller's user
 pub uid-small : (words : List (List ℕ)) → IfSome (whole (word number_of) words) IsNumber
 uid-small words =
-    then_some (λ x. IsNumber x.0) IsNumber if_read (word number_of words) (word_some IsNumber number_of number_of-small words) (λ x h. if_read-some IsNumber x h)
+    then_some (λ x. IsNumber x.0) IsNumber if_no_word_left (word number_of words) (word_some IsNumber number_of number_of-small words) (λ x h. if_read-some IsNumber x h)

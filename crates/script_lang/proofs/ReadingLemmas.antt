@@ -10,7 +10,7 @@ use Rattle.script_lang.specs.Statements.{statement_of}
 use Rattle.script_lang.specs.Sections.{is_caller, may_stand, first_misplaced_line, commands_of, sections_of}
 use Rattle.script_lang.specs.Script.{statements_in, statements_of, parsed_script, Reads}
 use Rattle.script_lang.specs.Reading.{with_commands, with_command, after_line, AddsCommand, AddsStatement, TakesLine}
-use Rattle.script_lang.specs.declared.limits.TheConstants.{MOST_CALLERS}
+use Rattle.script_lang.specs.declared.limits.TheConstants.{MAX_CALLERS}
 use Rattle.script_lang.specs.declared.commands.Command.{Command}
 use Rattle.script_lang.specs.declared.commands.Section.{Section}
 use Rattle.script_lang.specs.declared.verb.Verb.{Verb}
@@ -132,7 +132,7 @@ unfolding read_from first_bad_from commands_of sections_of
 read_from-line n sections None more = refl
 read_from-line n sections (Some Nothing) more = refl
 read_from-line n sections (Some (Caller uid)) more =
-    elim (cases_Bool (nat_lt (length sections) MOST_CALLERS)) [
+    elim (cases_Bool (nat_lt (length sections) MAX_CALLERS)) [
       | inl room ↦
           let new : Section = record { uid = uid; commands = [] } in
           rw room (rw (length-append sections (new ∷ []), with_commands-nil sections, with_commands-new sections uid (commands_of (n + 1) more), append_assoc) refl)
@@ -210,17 +210,17 @@ some_eq : {x y : List Section} → Some x ≡ Some y → x ≡ y
 some_eq h = cc h
 
 -- no more sections than callers may be
-pub few_callers : (n : ℕ) (sections after : List Section) (line : Option Statement) → length sections ≤ MOST_CALLERS
-    → after_line n sections line ≡ Some after → length after ≤ MOST_CALLERS
+pub few_callers : (n : ℕ) (sections after : List Section) (line : Option Statement) → length sections ≤ MAX_CALLERS
+    → after_line n sections line ≡ Some after → length after ≤ MAX_CALLERS
 few_callers n sections after None few took = absurd (cc took)
 few_callers n sections after (Some Nothing) few took = let e : sections ≡ after = cc took in omega (arith, ap length e)
 few_callers n sections after (Some (Caller uid)) few took =
     let new : Section = record { uid = uid; commands = [] } in
-    elim (cases_Bool (nat_lt (length sections) MOST_CALLERS)) [
+    elim (cases_Bool (nat_lt (length sections) MAX_CALLERS)) [
       | inl room ↦
-          let e : Some (sections ++ new ∷ []) ≡ Some after = sym (chosen (nat_lt (length sections) MOST_CALLERS) (sections ++ new ∷ []) room) ∙ took in
+          let e : Some (sections ++ new ∷ []) ≡ Some after = sym (chosen (nat_lt (length sections) MAX_CALLERS) (sections ++ new ∷ []) room) ∙ took in
           omega (arith, ltb-true _ _ room, ap length (some_eq e), length-append sections (new ∷ []))
-      | inr other ↦ absurd (cc (sym (left_out (nat_lt (length sections) MOST_CALLERS) (sections ++ new ∷ []) other) ∙ took))
+      | inr other ↦ absurd (cc (sym (left_out (nat_lt (length sections) MAX_CALLERS) (sections ++ new ∷ []) other) ∙ took))
     ]
 few_callers n sections after (Some (Order verb)) few took =
     let command : Command = record { line = n; verb = verb } in

@@ -9,9 +9,9 @@ use Rattle.script_lang.specs.Statements.{statement_of}
 use Rattle.script_lang.specs.Sections.{commands_of, sections_of}
 use Rattle.script_lang.specs.Script.{statements_of, parsed_script}
 use Rattle.script_lang.specs.VerbText.{verb_text}
-use Rattle.script_lang.specs.Writing.{empty_lines, caller_text, commands_text, line_behind, sections_text, script_text}
-use Rattle.script_lang.specs.Spelled.{StandBehind, HaveRoom, IsWritable, IsSpelled}
-use Rattle.script_lang.specs.declared.limits.TheConstants.{MOST_CALLERS}
+use Rattle.script_lang.specs.Writing.{empty_lines, caller_text, commands_text, first_free_line, sections_text, script_text}
+use Rattle.script_lang.specs.Spelled.{FollowInOrder, HaveSpace, IsWritable, IsSpelled}
+use Rattle.script_lang.specs.declared.limits.TheConstants.{MAX_CALLERS}
 use Rattle.script_lang.specs.declared.commands.Command.{Command}
 use Rattle.script_lang.specs.declared.commands.Section.{Section}
 use Rattle.script_lang.specs.declared.statements.Statement.{Statement}
@@ -36,7 +36,7 @@ command_lines n (command ∷ more) lines = nothings (command.line - n) (Some (Or
 section_lines : ℕ → List Section → List (Option Statement)
 section_lines n [] = []
 section_lines n (section ∷ more) =
-    Some (Caller section.uid) ∷ command_lines (n + 1) section.commands (section_lines (line_behind (n + 1) section.commands) more)
+    Some (Caller section.uid) ∷ command_lines (n + 1) section.commands (section_lines (first_free_line (n + 1) section.commands) more)
 
 -- a line before a text
 statements_of-line : (line text : List ℕ) → All (λ b. is_line_feed b ≡ false) line
@@ -48,7 +48,7 @@ unfolding nothings
 statements_of-empty zero text = refl
 statements_of-empty (suc n) text = statements_in-line [] (empty_lines n ++ text) ∙ ap (λ lines. Some Nothing ∷ lines) (statements_of-empty n text)
 
-statements_of-commands : (n : ℕ) (commands : List Command) (text : List ℕ) → StandBehind n commands
+statements_of-commands : (n : ℕ) (commands : List Command) (text : List ℕ) → FollowInOrder n commands
     → statements_of (commands_text n commands ++ text) ≡ command_lines n commands (statements_of text)
 unfolding commands_text command_lines
 statements_of-commands n [] text h = refl
@@ -64,12 +64,12 @@ statements_of-commands n (command ∷ more) text h =
     regrouped : (a b c d : List ℕ) → a ++ (b ++ 10 ∷ []) ++ c ++ d ≡ a ++ (b ++ 10 ∷ (c ++ d))
     regrouped a b c d = simp append_assoc
 
-statements_of-sections : (n : ℕ) (sections : List Section) → HaveRoom n sections
+statements_of-sections : (n : ℕ) (sections : List Section) → HaveSpace n sections
     → statements_of (sections_text n sections) ≡ section_lines n sections
 unfolding sections_text section_lines
 statements_of-sections n [] h = statements_of-nil [] refl
 statements_of-sections n (section ∷ more) h =
-    let next = line_behind (n + 1) section.commands in
+    let next = first_free_line (n + 1) section.commands in
     let rest = sections_text next more in
     ap (λ t. statements_of t) (append_assoc (caller_text section.uid) (10 ∷ commands_text (n + 1) section.commands) rest)
     ∙ (statements_of-line (caller_text section.uid) (commands_text (n + 1) section.commands ++ rest) (caller_text-feedless section.uid h.0)
@@ -94,7 +94,7 @@ sections_of-nothings m (suc n) lines =
     let e : m + 1 + n ≡ m + suc n = omega arith in
     sections_of-nothings (m + 1) n lines ∙ ap (λ k. sections_of k lines) e
 
-commands_of-command_lines : (n : ℕ) (commands : List Command) (lines : List (Option Statement)) → StandBehind n commands
+commands_of-command_lines : (n : ℕ) (commands : List Command) (lines : List (Option Statement)) → FollowInOrder n commands
     → ((k : ℕ) → commands_of k lines ≡ []) → commands_of n (command_lines n commands lines) ≡ commands
 unfolding commands_of command_lines
 commands_of-command_lines n [] lines h none = none n
@@ -104,8 +104,8 @@ commands_of-command_lines n (command ∷ more) lines h none =
     commands_of-nothings n (command.line - n) _
     ∙ rw here (ap (λ cs. command ∷ cs) (commands_of-command_lines (command.line + 1) more lines h.1.1 none))
 
-sections_of-command_lines : (n : ℕ) (commands : List Command) (lines : List (Option Statement)) → StandBehind n commands
-    → sections_of n (command_lines n commands lines) ≡ sections_of (line_behind n commands) lines
+sections_of-command_lines : (n : ℕ) (commands : List Command) (lines : List (Option Statement)) → FollowInOrder n commands
+    → sections_of n (command_lines n commands lines) ≡ sections_of (first_free_line n commands) lines
 unfolding sections_of command_lines
 sections_of-command_lines n [] lines h = refl
 sections_of-command_lines n (command ∷ more) lines h =
@@ -120,11 +120,11 @@ unfolding commands_of section_lines
 commands_of-section_lines k n [] = refl
 commands_of-section_lines k n (section ∷ more) = refl
 
-sections_of-section_lines : (n : ℕ) (sections : List Section) → HaveRoom n sections → sections_of n (section_lines n sections) ≡ sections
+sections_of-section_lines : (n : ℕ) (sections : List Section) → HaveSpace n sections → sections_of n (section_lines n sections) ≡ sections
 unfolding sections_of section_lines
 sections_of-section_lines n [] h = refl
 sections_of-section_lines n (section ∷ more) h =
-    let next = line_behind (n + 1) section.commands in
+    let next = first_free_line (n + 1) section.commands in
     let own = commands_of-command_lines (n + 1) section.commands (section_lines next more) h.1.0 (λ k. commands_of-section_lines k next more) in
     let others = sections_of-command_lines (n + 1) section.commands (section_lines next more) h.1.0 ∙ sections_of-section_lines next more h.1.1 in
     ap (λ cs. record { uid = section.uid; commands = cs } ∷ sections_of (n + 1) (command_lines (n + 1) section.commands (section_lines next more))) own
@@ -151,14 +151,14 @@ first_bad_from-commands k n callers (command ∷ more) lines some good =
     first_bad_from-nothings k (command.line - n) callers _
     (λ j. first_bad_from-order j callers command.verb _ some (first_bad_from-commands (j + 1) (command.line + 1) callers more lines some good))
 
-first_bad_from-sections : (k n callers : ℕ) (sections : List Section) → callers + length sections ≤ MOST_CALLERS
+first_bad_from-sections : (k n callers : ℕ) (sections : List Section) → callers + length sections ≤ MAX_CALLERS
     → first_bad_from k callers (section_lines n sections) ≡ None
 unfolding first_bad_from section_lines
 first_bad_from-sections k n callers [] few = refl
 first_bad_from-sections k n callers (section ∷ more) few =
-    rw (lt-ltb callers MOST_CALLERS (omega arith))
+    rw (lt-ltb callers MAX_CALLERS (omega arith))
     (first_bad_from-commands (k + 1) (n + 1) (callers + 1) section.commands _ (omega arith)
-    (λ j. first_bad_from-sections j (line_behind (n + 1) section.commands) (callers + 1) more (omega arith)))
+    (λ j. first_bad_from-sections j (first_free_line (n + 1) section.commands) (callers + 1) more (omega arith)))
 
 -- ---- the script
 

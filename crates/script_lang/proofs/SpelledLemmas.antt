@@ -7,20 +7,20 @@ use Rattle.std.proofs.lemmas.Bool.{ltb-true, cases_Bool}
 use Rattle.text_words.specs.Lines.{pieces_of}
 use Rattle.script_lang.specs.Sections.{first_misplaced_line, commands_of, sections_of}
 use Rattle.script_lang.specs.Script.{statements_in, statements_of, parsed_script}
-use Rattle.script_lang.specs.Writing.{line_behind}
-use Rattle.script_lang.specs.Spelled.{StandBehind, HaveRoom, IsWritable}
-use Rattle.script_lang.specs.declared.limits.TheConstants.{MOST_CALLERS}
+use Rattle.script_lang.specs.Writing.{first_free_line}
+use Rattle.script_lang.specs.Spelled.{FollowInOrder, HaveSpace, IsWritable}
+use Rattle.script_lang.specs.declared.limits.TheConstants.{MAX_CALLERS}
 use Rattle.script_lang.specs.declared.commands.Command.{Command}
 use Rattle.script_lang.specs.declared.commands.Section.{Section}
 use Rattle.script_lang.specs.declared.statements.Statement.{Statement}
 use Rattle.script_lang.specs.declared.statements.Statement.TheVariants.{Nothing, Caller, Order}
-use Rattle.script_lang.proofs.StatementLemmas.{IsSaid, statement_of-said}
+use Rattle.script_lang.proofs.StatementLemmas.{IsSpelledStatement, statement_of-said}
 use Rattle.script_lang.proofs.ReadingLemmas.{first_bad_from, first_bad_from-line}
 
 -- all statements of lines can be made
 abbrev AreSaid : List (Option Statement) → Type 0
 AreSaid [] = Unit {0}
-AreSaid (line ∷ more) = IfSome line IsSaid × AreSaid more
+AreSaid (line ∷ more) = IfSome line IsSpelledStatement × AreSaid more
 
 AreSaid-statements_in : (pieces : List (List ℕ)) → AreSaid (statements_in pieces)
 unfolding statements_in
@@ -34,19 +34,19 @@ AreSaid-statements_in (line ∷ next ∷ more) = (statement_of-said line, AreSai
 
 -- ---- the commands of a section
 
-StandBehind-le : (m n : ℕ) (commands : List Command) → m ≤ n → StandBehind n commands → StandBehind m commands
+StandBehind-le : (m n : ℕ) (commands : List Command) → m ≤ n → FollowInOrder n commands → FollowInOrder m commands
 StandBehind-le m n [] le h = tt
 StandBehind-le m n (command ∷ more) le h = let first = h.0 in (omega arith, h.1)
 
-line_behind-le : (m n : ℕ) (commands : List Command) → m ≤ n → line_behind m commands ≤ line_behind n commands
-line_behind-le m n [] le = le
-line_behind-le m n (command ∷ more) le = omega arith
+first_free_line-le : (m n : ℕ) (commands : List Command) → m ≤ n → first_free_line m commands ≤ first_free_line n commands
+first_free_line-le m n [] le = le
+first_free_line-le m n (command ∷ more) le = omega arith
 
-line_behind-from : (n : ℕ) (commands : List Command) → StandBehind n commands → n ≤ line_behind n commands
-line_behind-from n [] h = omega arith
-line_behind-from n (command ∷ more) h = let first = h.0 in let rest = line_behind-from (command.line + 1) more h.1.1 in omega arith
+first_free_line-from : (n : ℕ) (commands : List Command) → FollowInOrder n commands → n ≤ first_free_line n commands
+first_free_line-from n [] h = omega arith
+first_free_line-from n (command ∷ more) h = let first = h.0 in let rest = first_free_line-from (command.line + 1) more h.1.1 in omega arith
 
-StandBehind-commands_of : (n : ℕ) (lines : List (Option Statement)) → AreSaid lines → StandBehind n (commands_of n lines)
+StandBehind-commands_of : (n : ℕ) (lines : List (Option Statement)) → AreSaid lines → FollowInOrder n (commands_of n lines)
 unfolding commands_of
 StandBehind-commands_of n [] said = tt
 StandBehind-commands_of n (None ∷ more) said = StandBehind-le n (n + 1) _ (omega arith) (StandBehind-commands_of (n + 1) more said.1)
@@ -56,42 +56,42 @@ StandBehind-commands_of n (Some (Order verb) ∷ more) said = (omega arith, (sai
 
 -- ---- the sections
 
-HaveRoom-le : (m n : ℕ) (sections : List Section) → m ≤ n → HaveRoom n sections → HaveRoom m sections
-HaveRoom-le m n [] le h = tt
-HaveRoom-le m n (section ∷ more) le h = (
+HaveSpace-le : (m n : ℕ) (sections : List Section) → m ≤ n → HaveSpace n sections → HaveSpace m sections
+HaveSpace-le m n [] le h = tt
+HaveSpace-le m n (section ∷ more) le h = (
   h.0,
   (
     StandBehind-le (m + 1) (n + 1) section.commands (omega arith) h.1.0,
-    HaveRoom-le (line_behind (m + 1) section.commands) (line_behind (n + 1) section.commands) more (line_behind-le (m + 1) (n + 1) section.commands (omega arith)) h.1.1,
+    HaveSpace-le (first_free_line (m + 1) section.commands) (first_free_line (n + 1) section.commands) more (first_free_line-le (m + 1) (n + 1) section.commands (omega arith)) h.1.1,
   ),
 )
 
 -- the sections of lines begin after the commands before them
-HaveRoom-sections_of : (n : ℕ) (lines : List (Option Statement)) → AreSaid lines
-    → HaveRoom (line_behind n (commands_of n lines)) (sections_of n lines)
+HaveSpace-sections_of : (n : ℕ) (lines : List (Option Statement)) → AreSaid lines
+    → HaveSpace (first_free_line n (commands_of n lines)) (sections_of n lines)
 unfolding commands_of sections_of
-HaveRoom-sections_of n [] said = tt
-HaveRoom-sections_of n (None ∷ more) said =
-    HaveRoom-le _ _ (sections_of (n + 1) more) (line_behind-le n (n + 1) (commands_of (n + 1) more) (omega arith)) (HaveRoom-sections_of (n + 1) more said.1)
-HaveRoom-sections_of n (Some Nothing ∷ more) said =
-    HaveRoom-le _ _ (sections_of (n + 1) more) (line_behind-le n (n + 1) (commands_of (n + 1) more) (omega arith)) (HaveRoom-sections_of (n + 1) more said.1)
-HaveRoom-sections_of n (Some (Caller uid) ∷ more) said =
-    (said.0, (StandBehind-commands_of (n + 1) more said.1, HaveRoom-sections_of (n + 1) more said.1))
-HaveRoom-sections_of n (Some (Order verb) ∷ more) said = HaveRoom-sections_of (n + 1) more said.1
+HaveSpace-sections_of n [] said = tt
+HaveSpace-sections_of n (None ∷ more) said =
+    HaveSpace-le _ _ (sections_of (n + 1) more) (first_free_line-le n (n + 1) (commands_of (n + 1) more) (omega arith)) (HaveSpace-sections_of (n + 1) more said.1)
+HaveSpace-sections_of n (Some Nothing ∷ more) said =
+    HaveSpace-le _ _ (sections_of (n + 1) more) (first_free_line-le n (n + 1) (commands_of (n + 1) more) (omega arith)) (HaveSpace-sections_of (n + 1) more said.1)
+HaveSpace-sections_of n (Some (Caller uid) ∷ more) said =
+    (said.0, (StandBehind-commands_of (n + 1) more said.1, HaveSpace-sections_of (n + 1) more said.1))
+HaveSpace-sections_of n (Some (Order verb) ∷ more) said = HaveSpace-sections_of (n + 1) more said.1
 
 -- ---- how many callers there are
 
 -- if each line is allowed after those before it, there are few enough callers
-sections_of-few : (n m callers : ℕ) (lines : List (Option Statement)) → callers ≤ MOST_CALLERS → first_bad_from n callers lines ≡ None
-    → callers + length (sections_of m lines) ≤ MOST_CALLERS
+sections_of-few : (n m callers : ℕ) (lines : List (Option Statement)) → callers ≤ MAX_CALLERS → first_bad_from n callers lines ≡ None
+    → callers + length (sections_of m lines) ≤ MAX_CALLERS
 unfolding first_bad_from sections_of
 sections_of-few n m callers [] few good = omega arith
 sections_of-few n m callers (None ∷ more) few good = absurd (cc good)
 sections_of-few n m callers (Some Nothing ∷ more) few good = sections_of-few (n + 1) (m + 1) callers more few good
 sections_of-few n m callers (Some (Caller uid) ∷ more) few good =
-    elim (cases_Bool (nat_lt callers MOST_CALLERS)) [
+    elim (cases_Bool (nat_lt callers MAX_CALLERS)) [
       | inl room ↦
-          let rest = sections_of-few (n + 1) (m + 1) (callers + 1) more (omega (arith, ltb-true callers MOST_CALLERS room)) (rw room at good) in
+          let rest = sections_of-few (n + 1) (m + 1) (callers + 1) more (omega (arith, ltb-true callers MAX_CALLERS room)) (rw room at good) in
           omega arith
       | inr other ↦ absurd (cc (rw other at good))
     ]
@@ -116,5 +116,5 @@ IsWritable-spelled text script h =
     let good : first_bad_from 1 0 lines ≡ None = sym (first_bad_from-line [] lines) ∙ parts.0 in
     rw (← parts.1) (
       let few = sections_of-few 1 1 0 lines (omega arith) good in omega arith,
-      HaveRoom-le 1 _ (sections_of 1 lines) (line_behind-from 1 (commands_of 1 lines) (StandBehind-commands_of 1 lines said)) (HaveRoom-sections_of 1 lines said),
+      HaveSpace-le 1 _ (sections_of 1 lines) (first_free_line-from 1 (commands_of 1 lines) (StandBehind-commands_of 1 lines said)) (HaveSpace-sections_of 1 lines said),
     )

@@ -8,7 +8,7 @@ use Rattle.script_lang.specs.Forms.{word, whole}
 use Rattle.script_words.specs.Numbers.{number_of}
 use Rattle.script_lang.specs.Commands.{verb_of}
 use Rattle.script_lang.specs.Statements.{statement_of_words, statement_of}
-use Rattle.script_lang.specs.Asked.{IsAskable}
+use Rattle.script_lang.specs.CommandTasks.{IsAskable}
 use Rattle.script_lang.specs.declared.names.CommandName.{CommandName}
 use Rattle.script_lang.specs.declared.statements.Statement.{Statement}
 use Rattle.script_lang.specs.declared.statements.Statement.TheVariants.{Nothing, Caller, Order}
@@ -16,10 +16,10 @@ use Rattle.script_words.proofs.WordSpells.{chosen_some, mapped_some, then_some}
 use Rattle.script_lang.proofs.AskedLemmas.{command_named-askable, uid-small}
 
 -- a statement that a line can make
-abbrev pub IsSaid : Statement → Type 0
-IsSaid Nothing = Unit {0}
-IsSaid (Caller uid) = uid < 2 ^ 32
-IsSaid (Order verb) = IsAskable verb
+abbrev pub IsSpelledStatement : Statement → Type 0
+IsSpelledStatement Nothing = Unit {0}
+IsSpelledStatement (Caller uid) = uid < 2 ^ 32
+IsSpelledStatement (Order verb) = IsAskable verb
 
 verb_of-askable : (first : List ℕ) (words : List (List ℕ)) → IfSome (verb_of first words) IsAskable
 verb_of-askable first words =
@@ -29,13 +29,13 @@ verb_of-askable first words =
     any None = tt
     any (Some name) = tt
 
-statement_of_words-said : (words : List (List ℕ)) → IfSome (statement_of_words words) IsSaid
+statement_of_words-said : (words : List (List ℕ)) → IfSome (statement_of_words words) IsSpelledStatement
 statement_of_words-said [] = tt
 statement_of_words-said (name ∷ words) =
-    chosen_some IsSaid (bytes_eq name (codes "caller")) _ _
-    (mapped_some IsSaid Caller (whole (word number_of) words) (uid-small words))
-    (mapped_some IsSaid Order (verb_of name words) (verb_of-askable name words))
+    chosen_some IsSpelledStatement (bytes_eq name (codes "caller")) _ _
+    (mapped_some IsSpelledStatement Caller (whole (word number_of) words) (uid-small words))
+    (mapped_some IsSpelledStatement Order (verb_of name words) (verb_of-askable name words))
 
-pub statement_of-said : (line : List ℕ) → IfSome (statement_of line) IsSaid
+pub statement_of-said : (line : List ℕ) → IfSome (statement_of line) IsSpelledStatement
 statement_of-said line =
-    chosen_some IsSaid _ (Some Nothing) (statement_of_words (words_of line)) tt (statement_of_words-said (words_of line))
+    chosen_some IsSpelledStatement _ (Some Nothing) (statement_of_words (words_of line)) tt (statement_of_words-said (words_of line))

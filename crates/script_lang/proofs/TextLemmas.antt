@@ -16,11 +16,11 @@ use Rattle.script_lang.specs.Names.{name_text}
 use Rattle.script_lang.specs.VerbNames.{name_in}
 use Rattle.script_words.specs.Numbers.{number_of}
 use Rattle.script_lang.specs.Commands.{command_named, verb_of}
-use Rattle.script_lang.specs.VerbText.{verb_text, spaced}
+use Rattle.script_lang.specs.VerbText.{verb_text, with_leading_spaces}
 use Rattle.script_lang.specs.VerbWords.{verb_words}
-use Rattle.script_lang.specs.Statements.{statement_named, statement_of_words, statement_of}
+use Rattle.script_lang.specs.Statements.{statement_of_name, statement_of_words, statement_of}
 use Rattle.script_lang.specs.Writing.{caller_text}
-use Rattle.script_lang.specs.Asked.{IsAskable}
+use Rattle.script_lang.specs.CommandTasks.{IsAskable}
 use Rattle.script_lang.specs.declared.names.CommandName.{CommandName}
 use Rattle.script_lang.specs.declared.verb.Verb.{Verb}
 use Rattle.script_lang.specs.declared.statements.Statement.{Statement}
@@ -34,22 +34,22 @@ use Rattle.script_words.proofs.WordReadings.{number_of-text}
 
 -- the words of a line are those that it was written of
 words_of-spaced : (first : List ℕ) (words : List (List ℕ)) → IsPlain first → ArePlain words
-    → words_of (first ++ spaced words) ≡ first ∷ words
+    → words_of (first ++ with_leading_spaces words) ≡ first ∷ words
 words_of-spaced first [] h each = ap words_of (append-nil first) ∙ slice_split_none is_space first (without first 32 h (omega arith))
 words_of-spaced first (next ∷ words) h each =
-    slice_split_at is_space first 32 (next ++ spaced words) (without first 32 h (omega arith)) refl
+    slice_split_at is_space first 32 (next ++ with_leading_spaces words) (without first 32 h (omega arith)) refl
     ∙ ap (λ ws. first ∷ ws) (words_of-spaced next words each.0 each.1)
 
-spaced-feedless : (words : List (List ℕ)) → ArePlain words → All (λ b. is_line_feed b ≡ false) (spaced words)
+spaced-feedless : (words : List (List ℕ)) → ArePlain words → All (λ b. is_line_feed b ≡ false) (with_leading_spaces words)
 spaced-feedless [] each = All-nil (λ (b : ℕ). is_line_feed b ≡ false)
 spaced-feedless (word ∷ words) each =
-    All-cons (λ (b : ℕ). is_line_feed b ≡ false) 32 (word ++ spaced words) refl
-    (All-append (λ (b : ℕ). is_line_feed b ≡ false) word (spaced words) (without word 10 each.0 (omega arith)) (spaced-feedless words each.1))
+    All-cons (λ (b : ℕ). is_line_feed b ≡ false) 32 (word ++ with_leading_spaces words) refl
+    (All-append (λ (b : ℕ). is_line_feed b ≡ false) word (with_leading_spaces words) (without word 10 each.0 (omega arith)) (spaced-feedless words each.1))
 
 feedless : (first : List ℕ) (words : List (List ℕ)) → IsPlain first → ArePlain words
-    → All (λ b. is_line_feed b ≡ false) (first ++ spaced words)
+    → All (λ b. is_line_feed b ≡ false) (first ++ with_leading_spaces words)
 feedless first words h each =
-    All-append (λ (b : ℕ). is_line_feed b ≡ false) first (spaced words) (without first 10 h (omega arith)) (spaced-feedless words each)
+    All-append (λ (b : ℕ). is_line_feed b ≡ false) first (with_leading_spaces words) (without first 10 h (omega arith)) (spaced-feedless words each)
 
 -- the statement of a line that is not empty and begins no comment is that of its words
 statement_of-line : (line : List ℕ) → 0 < length line → (slice_index line 0 == 35) ≡ false → statement_of line ≡ statement_of_words (words_of line)
@@ -66,15 +66,15 @@ statement_of-line (b ∷ line) some other =
 
 -- the same of a line that was written of words
 statement_of-spaced : (first : List ℕ) (words : List (List ℕ)) → 0 < length first → (slice_index first 0 == 35) ≡ false
-    → IsPlain first → ArePlain words → statement_of (first ++ spaced words) ≡ statement_named first words
+    → IsPlain first → ArePlain words → statement_of (first ++ with_leading_spaces words) ≡ statement_of_name first words
 statement_of-spaced [] words some other h each = absurd (omega arith)
 statement_of-spaced (b ∷ first) words some other h each =
-    statement_of-line ((b ∷ first) ++ spaced words) (omega arith) other
+    statement_of-line ((b ∷ first) ++ with_leading_spaces words) (omega arith) other
     ∙ ap statement_of_words (words_of-spaced (b ∷ first) words h each)
 
 -- ---- the line of a caller
 
-caller_line : (uid : ℕ) → caller_text uid ≡ codes "caller" ++ spaced (decimal_of uid ∷ [])
+caller_line : (uid : ℕ) → caller_text uid ≡ codes "caller" ++ with_leading_spaces (decimal_of uid ∷ [])
 caller_line uid = ap (λ word. codes "caller " ++ word) (sym (append-nil (decimal_of uid)))
 
 caller_words : (uid : ℕ) → uid < 2 ^ 32 → ArePlain (decimal_of uid ∷ [])
@@ -83,9 +83,9 @@ caller_words uid small = (IsPlain-decimal_of uid (omega arith), tt)
 pub statement_of-caller : (uid : ℕ) → uid < 2 ^ 32 → statement_of (caller_text uid) ≡ Some (Caller uid)
 statement_of-caller uid small =
     let words = decimal_of uid ∷ [] in
-    let line : statement_of (codes "caller" ++ spaced words) ≡ statement_named (codes "caller") words =
+    let line : statement_of (codes "caller" ++ with_leading_spaces words) ≡ statement_of_name (codes "caller") words =
     statement_of-spaced (codes "caller") words (omega arith) refl (IsPlain-from_test (codes "caller") refl) (caller_words uid small) in
-    let named : statement_named (codes "caller") words ≡ Some (Caller uid) = rw (number_of-text uid small) refl in
+    let named : statement_of_name (codes "caller") words ≡ Some (Caller uid) = rw (number_of-text uid small) refl in
     ap statement_of (caller_line uid) ∙ line ∙ named
 
 pub caller_text-feedless : (uid : ℕ) → uid < 2 ^ 32 → All (λ b. is_line_feed b ≡ false) (caller_text uid)
@@ -121,7 +121,7 @@ verb_of-text : (name : CommandName) (words : List (List ℕ)) → verb_of (name_
 verb_of-text name words = ap (option_and_then (λ n. command_named n words)) (name_of-text name)
 
 named : (first : List ℕ) (words : List (List ℕ)) → bytes_eq first (codes "caller") ≡ false
-    → statement_named first words ≡ option_map Order (verb_of first words)
+    → statement_of_name first words ≡ option_map Order (verb_of first words)
 named first words other = chosen (bytes_eq first (codes "caller")) (option_map Caller (whole (word number_of) words)) (option_map Order (verb_of first words)) other
   where
     chosen : (b : Bool) (x y : Option Statement) → b ≡ false → (let o : Option Statement = if b then x else y in o ≡ y)

@@ -7,10 +7,10 @@ use Rattle.policy_ctx.specs.declared.policy.Unit.{Unit as DataUnit}
 use Rattle.script_lang.specs.VerbNames.{name_in}
 use Rattle.script_lang.specs.Commands.{command_named}
 use Rattle.script_lang.specs.VerbWords.{verb_words}
-use Rattle.script_lang.specs.SettingWords.{words_of_settings, words_of_unit, words_of_said_settings, words_of_options, words_of_number}
+use Rattle.script_lang.specs.SettingWords.{words_of_settings, words_of_unit, words_of_optional_settings, words_of_options, words_of_number}
 use Rattle.script_words.specs.Numbers.{IsNumber}
-use Rattle.script_lang.specs.Asked.{IsAskable}
-use Rattle.script_lang.specs.declared.limits.TheConstants.{MOST_ADDED_BYTES, MOST_WRITTEN_BYTES, MOST_FILLED_BYTES, MOST_PUT_BYTES, POLICY_BYTES}
+use Rattle.script_lang.specs.CommandTasks.{IsAskable}
+use Rattle.script_lang.specs.declared.limits.TheConstants.{MAX_ADDED_BYTES, MAX_WRITTEN_BYTES, MAX_FILLED_BYTES, MAX_PUT_BYTES, POLICY_BYTES}
 use Rattle.script_lang.specs.declared.verb.Verb.{Verb}
 use Rattle.script_lang.specs.declared.verb.Verb.TheVariants as verb
 use Rattle.script_lang.specs.declared.names.CommandName.TheVariants as name
@@ -67,7 +67,7 @@ encrypt_words path policy (Some settings) h = encrypt_settings path policy setti
 
 pub command_named-words : (verb : Verb) → IsAskable verb → command_named (name_in verb) (verb_words verb) ≡ Some verb
 unfolding command_named
-command_named-words (verb.AddKey bytes) h = rw (hex_of_size-encode_lower 1 MOST_ADDED_BYTES bytes h.0 h.1.0 h.1.1) refl
+command_named-words (verb.AddKey bytes) h = rw (hex_of_size-encode_lower 1 MAX_ADDED_BYTES bytes h.0 h.1.0 h.1.1) refl
 command_named-words (verb.RemoveKey key) h = rw (key_ref_of-text key h) refl
 command_named-words (verb.RemoveKeyAll key) h = rw (key_ref_of-text key h) refl
 command_named-words (verb.KeyStatus key) h = rw (key_ref_of-text key h) refl
@@ -117,14 +117,14 @@ command_named-words (verb.Write handle offset bytes) h =
     rw (
       number_of-text handle h.0,
       number_of-text offset h.1.0,
-      hex_or_none-text MOST_WRITTEN_BYTES bytes h.1.1.0 h.1.1.1,
+      hex_or_none-text MAX_WRITTEN_BYTES bytes h.1.1.0 h.1.1.1,
     )
     refl
 command_named-words (verb.Fill handle offset len byte) h =
     rw (
       number_of-text handle h.0,
       number_of-text offset h.1.0,
-      number_up_to-text MOST_FILLED_BYTES len (omega arith) h.1.1.0,
+      number_up_to-text MAX_FILLED_BYTES len (omega arith) h.1.1.0,
       number_up_to-text 255 byte (omega arith) h.1.1.1,
     )
     refl
@@ -134,7 +134,7 @@ command_named-words (verb.MetaPut name expected bytes) h =
     rw (
       record_of-name name h.0,
       number_of-text expected h.1.0,
-      hex_or_none-text MOST_PUT_BYTES bytes h.1.1.0 h.1.1.1,
+      hex_or_none-text MAX_PUT_BYTES bytes h.1.1.0 h.1.1.1,
     )
     refl
 command_named-words (verb.Protector protector secret) h =
@@ -192,7 +192,7 @@ unit_plain (Some unit) = (IsPlain-unit_text unit, tt)
 settings_plain : (settings : Settings) → ArePlain (words_of_settings settings)
 settings_plain settings = (IsPlain-pad_text settings.pad, unit_plain settings.unit)
 
-said_settings_plain : (settings : Option Settings) → ArePlain (words_of_said_settings settings)
+said_settings_plain : (settings : Option Settings) → ArePlain (words_of_optional_settings settings)
 said_settings_plain None = tt
 said_settings_plain (Some settings) = settings_plain settings
 
@@ -232,7 +232,7 @@ verb_words-plain (verb.Read handle offset len) h =
 verb_words-plain (verb.Write handle offset bytes) h =
     (IsPlain-number handle h.0, (IsPlain-number offset h.1.0, (IsPlain-hex_or_none bytes h.1.1.1, tt)))
 verb_words-plain (verb.Fill handle offset len byte) h =
-    (IsPlain-number handle h.0, (IsPlain-number offset h.1.0, (IsPlain-up_to MOST_FILLED_BYTES len (omega arith) h.1.1.0, (IsPlain-up_to 255 byte (omega arith) h.1.1.1, tt))))
+    (IsPlain-number handle h.0, (IsPlain-number offset h.1.0, (IsPlain-up_to MAX_FILLED_BYTES len (omega arith) h.1.1.0, (IsPlain-up_to 255 byte (omega arith) h.1.1.1, tt))))
 verb_words-plain verb.DropCaches h = tt
 verb_words-plain (verb.MetaGet name) h = (IsPlain-record_name name h, tt)
 verb_words-plain (verb.MetaPut name expected bytes) h =

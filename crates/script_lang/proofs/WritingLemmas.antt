@@ -2,7 +2,7 @@
 use Rattle.std.proofs.Common.{◌≡◌, ℕ, suc, ◌<◌, ◌≤◌, ◌+◌, ◌-◌, List, [], ◌∷◌, ◌++◌, length, drop, drop-cons, get_or, codes, refl, sym, ap, ◌∙◌, add-one, append_assoc, append-nil}
 use Rattle.std.proofs.lemmas.List.{drop_all}
 use Rattle.script_lang.specs.VerbText.{verb_text}
-use Rattle.script_lang.specs.Writing.{empty_lines, caller_text, commands_text, line_behind, sections_text, script_text}
+use Rattle.script_lang.specs.Writing.{empty_lines, caller_text, commands_text, first_free_line, sections_text, script_text}
 use Rattle.script_lang.specs.declared.commands.Command.{Command}
 use Rattle.script_lang.specs.declared.commands.Section.{Section}
 
@@ -19,10 +19,10 @@ unfolding commands_text
 commands_text-more text after whole n i command commands lt is wrote told =
     rw wrote (simp append_assoc (simp append_assoc at (rw (drop_item commands i command lt is) at told)))
 
-pub line_behind-more : (n i line : ℕ) (command : Command) (commands : List Command)
+pub first_free_line-more : (n i line : ℕ) (command : Command) (commands : List Command)
     → i < length commands → command ≡ get_or commands i command
-    → line_behind n (drop i commands) ≡ line → line_behind (command.line + 1) (drop (i + 1) commands) ≡ line
-line_behind-more n i line command commands lt is told = rw (drop_item commands i command lt is) at told
+    → first_free_line n (drop i commands) ≡ line → first_free_line (command.line + 1) (drop (i + 1) commands) ≡ line
+first_free_line-more n i line command commands lt is told = rw (drop_item commands i command lt is) at told
 
 pub commands_text-end : (text whole : List ℕ) (n i : ℕ) (commands : List Command) → length commands ≤ i
     → text ++ commands_text n (drop i commands) ≡ whole → text ≡ whole
@@ -32,7 +32,7 @@ commands_text-end text whole n i commands le told = sym (append-nil text) ∙ rw
 pub sections_text-more : (text after whole : List ℕ) (n next i : ℕ) (section : Section) (sections : List Section)
     → i < length sections → section ≡ get_or sections i section
     → after ≡ text ++ (caller_text section.uid ++ codes "\n") ++ commands_text (n + 1) section.commands
-    → next ≡ line_behind (n + 1) section.commands
+    → next ≡ first_free_line (n + 1) section.commands
     → text ++ sections_text n (drop i sections) ≡ whole
     → after ++ sections_text next (drop (i + 1) sections) ≡ whole
 unfolding sections_text

@@ -9,10 +9,10 @@ use Rattle.script_words.specs.Path.{path_of}
 use Rattle.script_lang.specs.Forms.{Form, says, only, whole}
 use Rattle.script_lang.specs.Names.{name_of}
 use Rattle.script_lang.specs.Verbs.{set_policy, set_policy_bytes, symlink, rename, list}
-use Rattle.script_lang.specs.NumberVerbs.{read, write, fill, meta_put}
+use Rattle.script_lang.specs.NumberVerbs.{read, write, fill, meta_put_form}
 use Rattle.script_lang.specs.Sessions.{protector, protector_change, policy_new, policy_add, policy_drop}
 use Rattle.script_lang.specs.Sessions.{unlock, encrypt}
-use Rattle.script_lang.specs.declared.limits.TheConstants.{MOST_ADDED_BYTES}
+use Rattle.script_lang.specs.declared.limits.TheConstants.{MAX_ADDED_BYTES}
 use Rattle.script_lang.specs.declared.names.CommandName.{CommandName}
 use Rattle.script_lang.specs.declared.names.CommandName.TheVariants as name
 use Rattle.script_lang.specs.declared.verb.Verb.{Verb}
@@ -20,7 +20,7 @@ use Rattle.script_lang.specs.declared.verb.Verb.TheVariants as verb
 
 -- the words that a command takes
 abbrev pub form_of : CommandName → Form Verb
-form_of name.AddKey = only verb.AddKey (hex_of_size 1 MOST_ADDED_BYTES)
+form_of name.AddKey = only verb.AddKey (hex_of_size 1 MAX_ADDED_BYTES)
 form_of name.RemoveKey = only verb.RemoveKey key_ref_of
 form_of name.RemoveKeyAll = only verb.RemoveKeyAll key_ref_of
 form_of name.KeyStatus = only verb.KeyStatus key_ref_of
@@ -43,7 +43,7 @@ form_of name.Write = write
 form_of name.Fill = fill
 form_of name.DropCaches = says verb.DropCaches
 form_of name.MetaGet = only verb.MetaGet record_of
-form_of name.MetaPut = meta_put
+form_of name.MetaPut = meta_put_form
 form_of name.Protector = protector
 form_of name.ProtectorChange = protector_change
 form_of name.ProtectorLink = only verb.ProtectorLink label_of

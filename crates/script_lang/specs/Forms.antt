@@ -32,12 +32,12 @@ abbrev pub optional : {A : Type 0} → Form A → Form (Option A)
 optional form = λ words. if length words == 0 then Some (None, words) else (form >>= λ a. says (Some a)) words
 
 -- what was read, if no word is left
-abbrev pub if_read : {A : Type 0} → A × List (List ℕ) → Option A
-if_read x = if length x.1 == 0 then Some x.0 else None
+abbrev pub if_no_word_left : {A : Type 0} → A × List (List ℕ) → Option A
+if_no_word_left x = if length x.1 == 0 then Some x.0 else None
 
 -- the value of all words
 abbrev pub whole : {A : Type 0} → Form A → List (List ℕ) → Option A
-whole form words = option_and_then if_read (form words)
+whole form words = option_and_then if_no_word_left (form words)
 
 -- the reader returns the form's value and leaves the words that the form leaves, or returns that they are
 -- outside the grammar. It may be out of memory at any time

@@ -11,7 +11,7 @@ pub mod VerbGroups
 pub mod SettingWords
 pub mod VerbWords
 pub mod VerbText
-pub mod Asked
+pub mod CommandTasks
 pub mod Statements
 pub mod Sections
 pub mod Script

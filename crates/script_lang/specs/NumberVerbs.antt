@@ -3,8 +3,8 @@ use Rattle.script_words.specs.Keys.{hex_or_none}
 use Rattle.script_words.specs.Numbers.{number_of, number_up_to}
 use Rattle.script_words.specs.Records.{record_of}
 use Rattle.script_lang.specs.Forms.{Form, ◌>>=◌, says, word}
-use Rattle.script_lang.specs.declared.limits.TheConstants.{MOST_WRITTEN_BYTES, MOST_FILLED_BYTES}
-use Rattle.script_lang.specs.declared.limits.TheConstants.{MOST_PUT_BYTES}
+use Rattle.script_lang.specs.declared.limits.TheConstants.{MAX_WRITTEN_BYTES, MAX_FILLED_BYTES}
+use Rattle.script_lang.specs.declared.limits.TheConstants.{MAX_PUT_BYTES}
 use Rattle.script_lang.specs.declared.verb.Verb.{Verb}
 use Rattle.script_lang.specs.declared.verb.Verb.TheVariants as verb
 
@@ -19,20 +19,20 @@ abbrev pub write : Form Verb
 write = do
   handle ← word number_of
   offset ← word number_of
-  bytes ← word (hex_or_none MOST_WRITTEN_BYTES)
+  bytes ← word (hex_or_none MAX_WRITTEN_BYTES)
   says (verb.Write handle offset bytes)
 
 abbrev pub fill : Form Verb
 fill = do
   handle ← word number_of
   offset ← word number_of
-  len ← word (number_up_to MOST_FILLED_BYTES)
+  len ← word (number_up_to MAX_FILLED_BYTES)
   byte ← word (number_up_to 255)
   says (verb.Fill handle offset len byte)
 
-abbrev pub meta_put : Form Verb
-meta_put = do
+abbrev pub meta_put_form : Form Verb
+meta_put_form = do
   record_put ← word record_of
   expected ← word number_of
-  bytes ← word (hex_or_none MOST_PUT_BYTES)
+  bytes ← word (hex_or_none MAX_PUT_BYTES)
   says (verb.MetaPut record_put expected bytes)

@@ -1,7 +1,7 @@
 -- What the reader has after each line: the sections so far.
 use Rattle.std.specs.Prelude.{ℕ, ◌≡◌, nat_lt, Bool, true, false, List, [], ◌∷◌, ◌++◌, length}
 use Rattle.std.specs.Prelude.{Option, Some, None, Result, Ok, Err, MatchOption, if◌then◌else◌}
-use Rattle.script_lang.specs.declared.limits.TheConstants.{MOST_CALLERS}
+use Rattle.script_lang.specs.declared.limits.TheConstants.{MAX_CALLERS}
 use Rattle.script_lang.specs.declared.commands.Command.{Command}
 use Rattle.script_lang.specs.declared.commands.Section.{Section}
 use Rattle.script_lang.specs.declared.statements.Statement.{Statement}
@@ -24,7 +24,7 @@ with_command sections command =
 -- the sections with one more, of this user, if there are fewer than eight
 abbrev pub with_section : List Section → ℕ → Option (List Section)
 with_section sections uid =
-    if nat_lt (length sections) MOST_CALLERS
+    if nat_lt (length sections) MAX_CALLERS
     then Some (sections ++ record { uid = uid; commands = [] } ∷ []) else None
 
 -- the sections after line n, if the line is allowed after them

@@ -2,7 +2,7 @@
 -- is an `Option`: `None` if the line on its own is outside the grammar.
 use Rattle.std.specs.Prelude.{ℕ, ◌+◌, nat_lt, Bool, false, true, List, [], ◌∷◌, ◌++◌}
 use Rattle.std.specs.Prelude.{length, count_by, Option, Some, None, if◌then◌else◌}
-use Rattle.script_lang.specs.declared.limits.TheConstants.{MOST_CALLERS}
+use Rattle.script_lang.specs.declared.limits.TheConstants.{MAX_CALLERS}
 use Rattle.script_lang.specs.declared.commands.Command.{Command}
 use Rattle.script_lang.specs.declared.commands.Section.{Section}
 use Rattle.script_lang.specs.declared.statements.Statement.{Statement}
@@ -18,7 +18,7 @@ is_caller _ = false
 abbrev pub may_stand : ℕ → Option Statement → Bool
 may_stand callers None = false
 may_stand callers (Some Nothing) = true
-may_stand callers (Some (Caller uid)) = nat_lt callers MOST_CALLERS
+may_stand callers (Some (Caller uid)) = nat_lt callers MAX_CALLERS
 may_stand callers (Some (Order verb)) = nat_lt 0 callers
 
 -- the number of the first line that is not allowed after all those before it; `before` are the lines

@@ -31,8 +31,8 @@ policy_new = do
   says (verb.PolicyNew policy protector secret options)
 
 -- the words after the policy and its protector
-abbrev pub policy_added : List ℕ → List ℕ → Form Verb
-policy_added policy protector = do
+abbrev pub policy_add_form : List ℕ → List ℕ → Form Verb
+policy_add_form policy protector = do
   secret ← word secret_of
   added ← word label_of
   added_secret ← word secret_of
@@ -42,7 +42,7 @@ abbrev pub policy_add : Form Verb
 policy_add = do
   policy ← word label_of
   protector ← word label_of
-  policy_added policy protector
+  policy_add_form policy protector
 
 abbrev pub policy_drop : Form Verb
 policy_drop = do

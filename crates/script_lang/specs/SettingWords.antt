@@ -18,9 +18,9 @@ words_of_number (Some number) = decimal_of number ∷ []
 abbrev pub words_of_settings : Settings → List (List ℕ)
 words_of_settings settings = pad_text settings.pad ∷ words_of_unit settings.unit
 
-abbrev pub words_of_said_settings : Option Settings → List (List ℕ)
-words_of_said_settings None = []
-words_of_said_settings (Some settings) = words_of_settings settings
+abbrev pub words_of_optional_settings : Option Settings → List (List ℕ)
+words_of_optional_settings None = []
+words_of_optional_settings (Some settings) = words_of_settings settings
 
 abbrev pub words_of_options : Option Options → List (List ℕ)
 words_of_options None = []

@@ -11,14 +11,14 @@ use Rattle.script_lang.specs.declared.statements.Statement.{Statement}
 use Rattle.script_lang.specs.declared.statements.Statement.TheVariants.{Nothing, Caller, Order}
 
 -- the statement of a name and the words after it: a caller with its user, or a command
-abbrev pub statement_named : List ℕ → List (List ℕ) → Option Statement
-statement_named name words =
+abbrev pub statement_of_name : List ℕ → List (List ℕ) → Option Statement
+statement_of_name name words =
     if bytes_eq name (codes "caller") then option_map Caller (whole (word number_of) words)
     else option_map Order (verb_of name words)
 
 -- the statement of words, the first of which is the name
 abbrev pub statement_of_words : List (List ℕ) → Option Statement
-statement_of_words words = option_and_then (λ name. statement_named name (drop 1 words)) (slice_get words 0)
+statement_of_words words = option_and_then (λ name. statement_of_name name (drop 1 words)) (slice_get words 0)
 
 -- the statement of a line, if it is in the grammar: an empty line, or one that begins with `#`, is
 -- `Nothing`

@@ -10,7 +10,7 @@ use Rattle.script_words.specs.Word.{word_text}
 use Rattle.script_words.specs.PathText.{path_text}
 use Rattle.script_lang.specs.declared.verb.Verb.{Verb}
 use Rattle.script_lang.specs.declared.verb.Verb.TheVariants as verb
-use Rattle.script_lang.specs.SettingWords.{words_of_number, words_of_settings, words_of_said_settings}
+use Rattle.script_lang.specs.SettingWords.{words_of_number, words_of_settings, words_of_optional_settings}
 use Rattle.script_lang.specs.SettingWords.{words_of_options}
 
 -- the words after the name
@@ -54,6 +54,6 @@ verb_words (verb.PolicyDrop policy protector) = policy ∷ protector ∷ []
 verb_words (verb.Unlock policy protector secret) = policy ∷ protector ∷ secret_text secret ∷ []
 verb_words (verb.Lock policy) = policy ∷ []
 verb_words (verb.Status policy) = policy ∷ []
-verb_words (verb.Encrypt path policy settings) = path_text path ∷ policy ∷ words_of_said_settings settings
+verb_words (verb.Encrypt path policy settings) = path_text path ∷ policy ∷ words_of_optional_settings settings
 verb_words (verb.Migrate policy) = policy ∷ []
 verb_words verb.Pause = []

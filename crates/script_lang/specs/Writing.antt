@@ -24,9 +24,9 @@ commands_text n [] = []
 commands_text n (command ∷ more) = command_text n command ++ commands_text (command.line + 1) more
 
 -- the first free line after the commands; line n if there is none
-abbrev pub line_behind : ℕ → List Command → ℕ
-line_behind n [] = n
-line_behind n (command ∷ more) = line_behind (command.line + 1) more
+abbrev pub first_free_line : ℕ → List Command → ℕ
+first_free_line n [] = n
+first_free_line n (command ∷ more) = first_free_line (command.line + 1) more
 
 -- a caller in line n, and its commands
 abbrev pub section_text : ℕ → Section → List ℕ
@@ -36,7 +36,7 @@ section_text n section = caller_text section.uid ++ (codes "\n" ++ commands_text
 unfoldable pub sections_text : ℕ → List Section → List ℕ
 sections_text n [] = []
 sections_text n (section ∷ more) =
-    section_text n section ++ sections_text (line_behind (n + 1) section.commands) more
+    section_text n section ++ sections_text (first_free_line (n + 1) section.commands) more
 
 -- a script from line 1 on
 unfoldable pub script_text : List Section → List ℕ

@@ -10,12 +10,12 @@ ghost use Rattle.script_words.specs.Secrets as secrets;
 ghost use Rattle.script_words.specs.Word.{target_bytes};
 ghost use Rattle.script_words.specs.Path.{path_of};
 ghost use Rattle.script_lang.specs.SettingForms as forms;
-ghost use Rattle.script_lang.specs.declared.limits.TheConstants.{MOST_ADDED_BYTES, MOST_WRITTEN_BYTES};
-ghost use Rattle.script_lang.specs.declared.limits.TheConstants.{MOST_FILLED_BYTES, MOST_PUT_BYTES};
+ghost use Rattle.script_lang.specs.declared.limits.TheConstants.{MAX_ADDED_BYTES, MAX_WRITTEN_BYTES};
+ghost use Rattle.script_lang.specs.declared.limits.TheConstants.{MAX_FILLED_BYTES, MAX_PUT_BYTES};
 ghost use Rattle.script_lang.specs.declared.limits.TheConstants.{POLICY_BYTES};
 
 use crate::limits::{
-    MOST_ADDED_BYTES, MOST_FILLED_BYTES, MOST_PUT_BYTES, MOST_WRITTEN_BYTES, POLICY_BYTES,
+    MAX_ADDED_BYTES, MAX_FILLED_BYTES, MAX_PUT_BYTES, MAX_WRITTEN_BYTES, POLICY_BYTES,
 };
 use crate::verb::{Options, Settings};
 use crate::words::{Unread, Words};
@@ -41,10 +41,10 @@ impl Words<'_> {
 
     // The number of bytes to fill.
     pub(crate) fn filled_len(&mut self) -> Result<u32, Unread>
-        ensures { Takes result (word (numbers.number_up_to MOST_FILLED_BYTES) self.old) self.new }
+        ensures { Takes result (word (numbers.number_up_to MAX_FILLED_BYTES) self.old) self.new }
     {
         let word = self.next().ok_or(Unread::OutsideGrammar)?;
-        read_number_up_to(word, MOST_FILLED_BYTES).ok_or(Unread::OutsideGrammar)
+        read_number_up_to(word, MAX_FILLED_BYTES).ok_or(Unread::OutsideGrammar)
     }
 
     // A byte, by its number.
@@ -121,26 +121,26 @@ impl Words<'_> {
 
     // The bytes of a key to be added.
     pub(crate) fn added_bytes(&mut self, alloc: Global) -> Result<Bytes, Unread>
-        ensures { Takes result (word (keys.hex_of_size 1 MOST_ADDED_BYTES) self.old) self.new }
+        ensures { Takes result (word (keys.hex_of_size 1 MAX_ADDED_BYTES) self.old) self.new }
     {
         let word = self.next().ok_or(Unread::OutsideGrammar)?;
-        read_hex(alloc, word, 1, MOST_ADDED_BYTES)?.ok_or(Unread::OutsideGrammar)
+        read_hex(alloc, word, 1, MAX_ADDED_BYTES)?.ok_or(Unread::OutsideGrammar)
     }
 
     // The bytes of a write.
     pub(crate) fn written_bytes(&mut self, alloc: Global) -> Result<Bytes, Unread>
-        ensures { Takes result (word (keys.hex_or_none MOST_WRITTEN_BYTES) self.old) self.new }
+        ensures { Takes result (word (keys.hex_or_none MAX_WRITTEN_BYTES) self.old) self.new }
     {
         let word = self.next().ok_or(Unread::OutsideGrammar)?;
-        read_hex_or_none(alloc, word, MOST_WRITTEN_BYTES)?.ok_or(Unread::OutsideGrammar)
+        read_hex_or_none(alloc, word, MAX_WRITTEN_BYTES)?.ok_or(Unread::OutsideGrammar)
     }
 
     // The bytes of a record.
     pub(crate) fn put_bytes(&mut self, alloc: Global) -> Result<Bytes, Unread>
-        ensures { Takes result (word (keys.hex_or_none MOST_PUT_BYTES) self.old) self.new }
+        ensures { Takes result (word (keys.hex_or_none MAX_PUT_BYTES) self.old) self.new }
     {
         let word = self.next().ok_or(Unread::OutsideGrammar)?;
-        read_hex_or_none(alloc, word, MOST_PUT_BYTES)?.ok_or(Unread::OutsideGrammar)
+        read_hex_or_none(alloc, word, MAX_PUT_BYTES)?.ok_or(Unread::OutsideGrammar)
     }
 
     // A secret.
@@ -160,7 +160,7 @@ impl Words<'_> {
     }
 
     // A number, if a word is left.
-    pub(crate) fn said_number(&mut self) -> Result<Option<u32>, Unread>
+    pub(crate) fn optional_number(&mut self) -> Result<Option<u32>, Unread>
         ensures { Takes result (optional (word numbers.number_of) self.old) self.new }
     {
         if self.is_empty() {
@@ -170,7 +170,7 @@ impl Words<'_> {
     }
 
     // A unit, if a word is left.
-    pub(crate) fn said_unit(&mut self) -> Result<Option<Unit>, Unread>
+    pub(crate) fn optional_unit(&mut self) -> Result<Option<Unit>, Unread>
         ensures { Takes result (optional (word numbers.unit_of) self.old) self.new }
     {
         if self.is_empty() {
@@ -185,12 +185,12 @@ impl Words<'_> {
     {
         Ok(Settings {
             pad: self.pad()?,
-            unit: self.said_unit()?,
+            unit: self.optional_unit()?,
         })
     }
 
     // Settings, if a word is left.
-    pub(crate) fn said_settings(&mut self) -> Result<Option<Settings>, Unread>
+    pub(crate) fn optional_settings(&mut self) -> Result<Option<Settings>, Unread>
         ensures { Takes result (optional forms.settings self.old) self.new }
     {
         if self.is_empty() {
@@ -210,7 +210,7 @@ impl Words<'_> {
     }
 
     // A padding and a unit, if a word is left.
-    pub(crate) fn said_options(&mut self) -> Result<Option<Options>, Unread>
+    pub(crate) fn optional_options(&mut self) -> Result<Option<Options>, Unread>
         ensures { Takes result (optional forms.options self.old) self.new }
     {
         if self.is_empty() {

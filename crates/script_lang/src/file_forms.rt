@@ -50,7 +50,7 @@ pub(crate) fn list(alloc: Global, words: &mut Words<'_>) -> Result<Verb, Unread>
 {
     Ok(Verb::List {
         path: words.path(alloc)?,
-        start: words.said_number()?,
+        start: words.optional_number()?,
     })
 }
 
@@ -85,8 +85,8 @@ pub(crate) fn fill(words: &mut Words<'_>) -> Result<Verb, Unread>
     })
 }
 
-pub(crate) fn meta_put(alloc: Global, words: &mut Words<'_>) -> Result<Verb, Unread>
-    ensures { Takes result (number_forms.meta_put words.old) words.new }
+pub(crate) fn meta_put_form(alloc: Global, words: &mut Words<'_>) -> Result<Verb, Unread>
+    ensures { Takes result (number_forms.meta_put_form words.old) words.new }
 {
     Ok(Verb::MetaPut {
         record: words.record()?,

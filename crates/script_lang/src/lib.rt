@@ -20,8 +20,7 @@ mod writer;
 
 pub use commands::{Command, CommandList, Script, Section};
 pub use limits::{
-    MOST_ADDED_BYTES, MOST_CALLERS, MOST_FILLED_BYTES, MOST_PUT_BYTES, MOST_WRITTEN_BYTES,
-    POLICY_BYTES,
+    MAX_ADDED_BYTES, MAX_CALLERS, MAX_FILLED_BYTES, MAX_PUT_BYTES, MAX_WRITTEN_BYTES, POLICY_BYTES,
 };
 pub use names::CommandName;
 pub use reader::{ScriptFault, read_script};

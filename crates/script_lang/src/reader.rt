@@ -2,16 +2,16 @@
 
 ghost use Rattle.std.specs.Prelude.{◌<◌, ◌≤◌, ◌^◌, length, IfOk};
 ghost use Rattle.std.specs.Option.{option_map};
-ghost use Rattle.script_lang.specs.declared.limits.TheConstants.{MOST_CALLERS};
+ghost use Rattle.script_lang.specs.declared.limits.TheConstants.{MAX_CALLERS};
 ghost use Rattle.script_lang.specs.Script.{parsed_script, Reads};
 ghost use Rattle.script_lang.specs.Commands.{verb_of};
-ghost use Rattle.script_lang.specs.Statements.{statement_named, statement_of, statement_of_words};
+ghost use Rattle.script_lang.specs.Statements.{statement_of_name, statement_of, statement_of_words};
 ghost use Rattle.script_lang.specs.Reading.{after_line, with_section, AddsCommand, AddsStatement, TakesLine};
 ghost use Rattle.script_lang.specs.declared.statements.Statement.TheVariants.{Order};
 
 use crate::commands::{Command, CommandList, Script, Section};
-use crate::limits::MOST_CALLERS;
-use crate::statements::{read_uid, says_nothing};
+use crate::limits::MAX_CALLERS;
+use crate::statements::{is_blank_or_comment, read_uid};
 use crate::verbs::read_verb;
 use crate::words::Words;
 use std::alloc::{AllocError, Global};
@@ -46,7 +46,7 @@ impl From<AllocError> for ScriptFault {
 pub fn read_script(alloc: Global, text: &[u8]) -> Result<Script, ScriptFault>
     requires { length text.now < 2 ^ 32 }
     ensures value { Reads result (parsed_script text.now) }
-    ensures callers { IfOk result (λ script. length script ≤ MOST_CALLERS) }
+    ensures callers { IfOk result (λ script. length script ≤ MAX_CALLERS) }
 {
     let mut sections = Vec::new(alloc);
     let mut rest = text;
@@ -95,7 +95,7 @@ fn add_line(
     ensures { IfOk result (AddsStatement
         (after_line number sections.old.items (statement_of line.now)) sections.new.items) }
 {
-    if says_nothing(line) {
+    if is_blank_or_comment(line) {
         return Ok(true);
     }
     add_words(alloc, sections, number, &mut Words::new(line), behind)
@@ -128,7 +128,7 @@ fn add_named(
     behind: &[u8],
 ) -> Result<bool, AllocError>
     ensures { IfOk result (AddsStatement
-        (after_line number sections.old.items (statement_named name.now words.old)) sections.new.items) }
+        (after_line number sections.old.items (statement_of_name name.now words.old)) sections.new.items) }
 {
     if name == b"caller".as_slice() {
         return match read_uid(words) {
@@ -149,7 +149,7 @@ fn add_section(
 ) -> Result<bool, AllocError>
     ensures { IfOk result (AddsStatement (with_section sections.old.items uid) sections.new.items) }
 {
-    if sections.len() < MOST_CALLERS {
+    if sections.len() < MAX_CALLERS {
         let commands = CommandList::from_vec(Vec::with_capacity(alloc, room)?);
         sections.push(Section { uid, commands })?;
         return Ok(true);

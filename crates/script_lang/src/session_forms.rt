@@ -34,7 +34,7 @@ pub(crate) fn policy_new(alloc: Global, words: &mut Words<'_>) -> Result<Verb, U
         policy: words.label()?,
         protector: words.label()?,
         secret: words.secret(alloc)?,
-        options: words.said_options()?,
+        options: words.optional_options()?,
     })
 }
 
@@ -43,17 +43,17 @@ pub(crate) fn policy_add(alloc: Global, words: &mut Words<'_>) -> Result<Verb, U
 {
     let policy = words.label()?;
     let protector = words.label()?;
-    policy_added(alloc, policy, protector, words)
+    policy_add_form(alloc, policy, protector, words)
 }
 
 // The same, once its policy and protector are read.
-fn policy_added(
+fn policy_add_form(
     alloc: Global,
     policy: Label,
     protector: Label,
     words: &mut Words<'_>,
 ) -> Result<Verb, Unread>
-    ensures { Takes result (forms.policy_added policy protector words.old) words.new }
+    ensures { Takes result (forms.policy_add_form policy protector words.old) words.new }
 {
     Ok(Verb::PolicyAdd {
         policy,
@@ -89,6 +89,6 @@ pub(crate) fn encrypt(alloc: Global, words: &mut Words<'_>) -> Result<Verb, Unre
     Ok(Verb::Encrypt {
         path: words.path(alloc)?,
         policy: words.label()?,
-        settings: words.said_settings()?,
+        settings: words.optional_settings()?,
     })
 }

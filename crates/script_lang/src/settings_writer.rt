@@ -2,7 +2,7 @@
 
 ghost use Rattle.std.specs.Prelude.{◌≡◌, OnOk};
 ghost use Rattle.script_lang.specs.VerbText.{behind};
-ghost use Rattle.script_lang.specs.SettingWords.{words_of_settings, words_of_said_settings};
+ghost use Rattle.script_lang.specs.SettingWords.{words_of_settings, words_of_optional_settings};
 ghost use Rattle.script_lang.specs.SettingWords.{words_of_number, words_of_options, words_of_unit};
 
 use crate::verb::{Options, Settings};
@@ -10,7 +10,10 @@ use policy_ctx::Unit;
 use script_words::push_number;
 use std::alloc::AllocError;
 
-pub(crate) fn push_said_number(text: &mut Vec<u8>, number: Option<u32>) -> Result<(), AllocError>
+pub(crate) fn push_optional_number(
+    text: &mut Vec<u8>,
+    number: Option<u32>,
+) -> Result<(), AllocError>
     ensures { OnOk result (text.new.items ≡ behind text.old.items (words_of_number number)) }
 {
     match number {
@@ -35,11 +38,11 @@ fn push_said_unit(text: &mut Vec<u8>, unit: Option<Unit>) -> Result<(), AllocErr
     }
 }
 
-pub(crate) fn push_said_settings(
+pub(crate) fn push_optional_settings(
     text: &mut Vec<u8>,
     settings: &Option<Settings>,
 ) -> Result<(), AllocError>
-    ensures { OnOk result (text.new.items ≡ behind text.old.items (words_of_said_settings settings.now)) }
+    ensures { OnOk result (text.new.items ≡ behind text.old.items (words_of_optional_settings settings.now)) }
 {
     match settings {
         Some(settings) => push_settings(text, settings),
@@ -47,7 +50,7 @@ pub(crate) fn push_said_settings(
     }
 }
 
-pub(crate) fn push_said_options(
+pub(crate) fn push_optional_options(
     text: &mut Vec<u8>,
     options: &Option<Options>,
 ) -> Result<(), AllocError>

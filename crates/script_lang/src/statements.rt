@@ -3,7 +3,7 @@
 ghost use Rattle.std.specs.Prelude.{◌≡◌, ◌==◌, ◌||◌, IfOk, length, slice_index};
 ghost use Rattle.script_lang.specs.Forms.{word, whole};
 ghost use Rattle.script_words.specs.Numbers.{number_of};
-ghost use Rattle.script_lang.specs.Statements.{statement_named, statement_of, statement_of_words};
+ghost use Rattle.script_lang.specs.Statements.{statement_of_name, statement_of, statement_of_words};
 
 use crate::verb::Verb;
 use crate::verbs::read_verb;
@@ -26,14 +26,14 @@ pub enum Statement {
 pub fn read_statement(alloc: Global, line: &[u8]) -> Result<Option<Statement>, AllocError>
     ensures { IfOk result (λ said. said ≡ statement_of line.now) }
 {
-    if says_nothing(line) {
+    if is_blank_or_comment(line) {
         return Ok(Some(Statement::Nothing));
     }
     read_words(alloc, &mut Words::new(line))
 }
 
 // Whether a line is empty, or a comment.
-pub(crate) fn says_nothing(line: &[u8]) -> bool
+pub(crate) fn is_blank_or_comment(line: &[u8]) -> bool
     ensures { result ≡ (length line.now == 0 || slice_index line.now 0 == 35) }
 {
     line.is_empty() || line[0] == b'#'
@@ -55,7 +55,7 @@ fn read_named(
     name: &[u8],
     words: &mut Words<'_>,
 ) -> Result<Option<Statement>, AllocError>
-    ensures { IfOk result (λ said. said ≡ statement_named name.now words.old) }
+    ensures { IfOk result (λ said. said ≡ statement_of_name name.now words.old) }
 {
     if name == b"caller".as_slice() {
         return Ok(read_uid(words).map(Statement::Caller));

@@ -6,7 +6,7 @@ ghost use Rattle.script_lang.specs.VerbWords.{verb_words};
 ghost use Rattle.script_lang.specs.VerbGroups.{BeginsWithPath, BeginsWithLabel, HasNumbers};
 
 use crate::settings_writer::{
-    push_said_number, push_said_options, push_said_settings, push_settings,
+    push_optional_number, push_optional_options, push_optional_settings, push_settings,
 };
 use crate::verb::Verb;
 use script_words::{
@@ -95,7 +95,7 @@ fn write_behind_path(alloc: Global, text: &mut Vec<u8>, verb: &Verb) -> Result<(
         }
         Verb::List { path, start } => {
             push_path(alloc, text, path)?;
-            push_said_number(text, *start)
+            push_optional_number(text, *start)
         }
         Verb::Encrypt {
             path,
@@ -104,7 +104,7 @@ fn write_behind_path(alloc: Global, text: &mut Vec<u8>, verb: &Verb) -> Result<(
         } => {
             push_path(alloc, text, path)?;
             push_label(text, policy)?;
-            push_said_settings(text, settings)
+            push_optional_settings(text, settings)
         }
         _ => unreachable!(),
     }
@@ -186,7 +186,7 @@ fn write_labels(alloc: Global, text: &mut Vec<u8>, verb: &Verb) -> Result<(), Al
             push_label(text, policy)?;
             push_label(text, protector)?;
             push_secret(alloc, text, secret)?;
-            push_said_options(text, options)
+            push_optional_options(text, options)
         }
         Verb::PolicyAdd {
             policy,

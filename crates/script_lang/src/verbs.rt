@@ -1,13 +1,13 @@
 //! The table of commands: the words after each name, taken in order.
 
 ghost use Rattle.std.specs.Prelude.{◌≡◌, IfOk};
-ghost use Rattle.script_lang.specs.Forms.{Takes, if_read};
+ghost use Rattle.script_lang.specs.Forms.{Takes, if_no_word_left};
 ghost use Rattle.script_lang.specs.Commands.{form_of, verb_of, command_named};
 ghost use Rattle.script_lang.specs.NameGroups.{TakesKey, TakesPath, TakesLabel};
 ghost use Rattle.script_lang.specs.NameGroups.{TakesCallWords, TakesSessionWords};
 
 use crate::file_forms::{
-    fill, list, meta_put, read, rename, set_policy, set_policy_bytes, symlink, write,
+    fill, list, meta_put_form, read, rename, set_policy, set_policy_bytes, symlink, write,
 };
 use crate::names::CommandName;
 use crate::session_forms::{
@@ -49,7 +49,7 @@ fn read_command(
 
 // The command, if it has taken all words.
 fn if_none_left(verb: Verb, words: &Words<'_>) -> Option<Verb>
-    ensures { result ≡ if_read (verb, words.now) }
+    ensures { result ≡ if_no_word_left (verb, words.now) }
 {
     if words.is_empty() { Some(verb) } else { None }
 }
@@ -160,7 +160,7 @@ fn take_call_words(alloc: Global, name: CommandName, words: &mut Words<'_>) -> R
         CommandName::Read => read(words),
         CommandName::Write => write(alloc, words),
         CommandName::Fill => fill(words),
-        CommandName::MetaPut => meta_put(alloc, words),
+        CommandName::MetaPut => meta_put_form(alloc, words),
         _ => unreachable!(),
     }
 }

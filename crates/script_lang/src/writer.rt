@@ -3,7 +3,7 @@
 ghost use Rattle.std.specs.Prelude.{◌≡◌, ◌≤◌, ◌+◌, ◌-◌, ◌^◌, ◌++◌, Ok, IfOk, OnOk, codes};
 ghost use Rattle.script_lang.specs.Script.{parsed_script};
 ghost use Rattle.script_lang.specs.Writing.{caller_text, commands_text};
-ghost use Rattle.script_lang.specs.Writing.{line_behind, empty_lines, script_text};
+ghost use Rattle.script_lang.specs.Writing.{first_free_line, empty_lines, script_text};
 ghost use Rattle.script_lang.specs.Spelled.{IsSpelled};
 
 use crate::commands::{CommandList, Script};
@@ -46,7 +46,7 @@ fn write_commands(
     commands: &CommandList,
 ) -> Result<u64, AllocError>
     ensures written { OnOk result (text.new.items ≡ text.old.items ++ commands_text first commands.now) }
-    ensures next { IfOk result (λ next. next ≡ line_behind first commands.now) }
+    ensures next { IfOk result (λ next. next ≡ first_free_line first commands.now) }
     ensures bound { IfOk result (λ next. next ≤ first + 2 ^ 32) }
 {
     let mut next = first;

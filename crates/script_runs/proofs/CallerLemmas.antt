@@ -4,7 +4,7 @@ use Rattle.std.specs.Prelude.{slice_get, All}
 use Rattle.std.specs.List.{fold}
 use Rattle.std.proofs.lemmas.Option.{slice_get_past, slice_get_within, slice_get_cases, get_or_from_slice_get}
 use Rattle.call_history.specs.Entries.{by}
-use Rattle.reply_text.specs.Shown.{PlacedShown, shown_calls}
+use Rattle.reply_text.specs.Logged.{PlacedLogged, logged_calls}
 use Rattle.reply_text.specs.declared.notes.Note.{Note}
 use Rattle.fsc_session.proofs.ShownRuns.{by-shown}
 use Rattle.call_history.proofs.Placing.{by-append, by-by, by-by_other}
@@ -18,7 +18,7 @@ use Rattle.fsc_session.specs.ScriptRun.{IsRunOfCaller, notes_by}
 use Rattle.fsc_session.specs.Runners.{RunnerView, runner_view, state_of}
 use Rattle.fsc_session.specs.Rotation.{Waiting, fresh, longest}
 use Rattle.fsc_session.proofs.RunLemmas.{run_is_whole, notes_are_whole}
-use Rattle.script_runs.specs.Callers.{fresh_runners, noted_by, sections_of, shown_by}
+use Rattle.script_runs.specs.Callers.{fresh_runners, noted_by, sections_of, logged_calls_of}
 use Rattle.script_runs.specs.Turns.{InTurn, Rotates}
 
 -- ---- before the first turn
@@ -83,12 +83,12 @@ rotates_first seed whole script runners is asked =
 -- ---- after the last
 
 -- one caller more
-pub shown_by-more : {A : Type 0} (shown : A → PlacedShown) (callers : List A) (caller : A)
-    → shown_by shown (callers ++ caller ∷ []) ≡ shown_by shown callers ++ shown caller
+pub shown_by-more : {A : Type 0} (shown : A → PlacedLogged) (callers : List A) (caller : A)
+    → logged_calls_of shown (callers ++ caller ∷ []) ≡ logged_calls_of shown callers ++ shown caller
 shown_by-more shown [] caller = append-nil (shown caller)
 shown_by-more shown (first ∷ more) caller =
-    ap (λ (l : PlacedShown). shown first ++ l) (shown_by-more shown more caller)
-    ∙ sym (append_assoc (shown first) (shown_by shown more) (shown caller))
+    ap (λ (l : PlacedLogged). shown first ++ l) (shown_by-more shown more caller)
+    ∙ sym (append_assoc (shown first) (logged_calls_of shown more) (shown caller))
 
 pub noted_by-more : (runners : List RunnerView) (runner : RunnerView)
     → noted_by (runners ++ runner ∷ []) ≡ noted_by runners ++ runner.notes
@@ -97,62 +97,62 @@ noted_by-more (first ∷ more) runner =
     ap (λ (l : List Note). first.notes ++ l) (noted_by-more more runner)
     ∙ sym (append_assoc first.notes (noted_by more) runner.notes)
 
-module _ {A : Type 0} (shown : A → PlacedShown) where
+module _ {A : Type 0} (shown : A → PlacedLogged) where
   -- if no caller is this one
-  told_none : (told : PlacedShown) (k c : ℕ) (callers : List A)
+  told_none : (told : PlacedLogged) (k c : ℕ) (callers : List A)
       → ((j : ℕ) (r : A) → slice_get callers j ≡ Some r → (shown r ≡ by (k + j) told) × (c ≢ k + j))
-      → by c (shown_by shown callers) ≡ []
+      → by c (logged_calls_of shown callers) ≡ []
   told_none told k c [] each = refl
   told_none told k c (r ∷ rs) each =
       let first = each 0 r refl in
-      by-append c (shown r) (shown_by shown rs)
-      ∙ ap₂ (λ (a b : PlacedShown). a ++ b) (ap (by c) first.0 ∙ by-by_other c (k + 0) told first.1)
+      by-append c (shown r) (logged_calls_of shown rs)
+      ∙ ap₂ (λ (a b : PlacedLogged). a ++ b) (ap (by c) first.0 ∙ by-by_other c (k + 0) told first.1)
       (told_none told (k + 1) c rs (λ j s here.
       let rest = each (suc j) s here in
       let next : k + suc j ≡ k + 1 + j = omega arith in
       (rest.0 ∙ ap (λ w. by w told) next, λ same. rest.1 (same ∙ sym next))))
 
-  told_own : (told : PlacedShown) (k i : ℕ) (callers : List A) (caller : A) → slice_get callers i ≡ Some caller
+  told_own : (told : PlacedLogged) (k i : ℕ) (callers : List A) (caller : A) → slice_get callers i ≡ Some caller
       → ((j : ℕ) (r : A) → slice_get callers j ≡ Some r → shown r ≡ by (k + j) told)
-      → by (k + i) (shown_by shown callers) ≡ by (k + i) told
+      → by (k + i) (logged_calls_of shown callers) ≡ by (k + i) told
   told_own told k i [] caller here each = absurd (cc here)
   told_own told k zero (r ∷ rs) caller here each =
-      by-append (k + 0) (shown r) (shown_by shown rs)
-      ∙ ap₂ (λ (a b : PlacedShown). a ++ b) (ap (by (k + 0)) (each 0 r refl) ∙ by-by (k + 0) told)
+      by-append (k + 0) (shown r) (logged_calls_of shown rs)
+      ∙ ap₂ (λ (a b : PlacedLogged). a ++ b) (ap (by (k + 0)) (each 0 r refl) ∙ by-by (k + 0) told)
       (told_none told (k + 1) (k + 0) rs (λ j s there. let next : k + suc j ≡ k + 1 + j = omega arith in
       (each (suc j) s there ∙ ap (λ w. by w told) next, λ same. omega (arith, same))))
       ∙ append-nil (by (k + 0) told)
   told_own told k (suc i) (r ∷ rs) caller here each =
       let next : k + suc i ≡ k + 1 + i = omega arith in
-      by-append (k + suc i) (shown r) (shown_by shown rs)
-      ∙ ap₂ (λ (a b : PlacedShown). a ++ b)
+      by-append (k + suc i) (shown r) (logged_calls_of shown rs)
+      ∙ ap₂ (λ (a b : PlacedLogged). a ++ b)
       (ap (by (k + suc i)) (each 0 r refl) ∙ by-by_other (k + suc i) (k + 0) told (λ same. omega (arith, same)))
-      (ap (λ w. by w (shown_by shown rs)) next
+      (ap (λ w. by w (logged_calls_of shown rs)) next
       ∙ told_own told (k + 1) i rs caller here (λ j s there. let on : k + suc j ≡ k + 1 + j = omega arith in
       each (suc j) s there ∙ ap (λ w. by w told) on)
       ∙ ap (λ w. by w told) (sym next))
 
   -- callers each of which has the shown entries of its part of these calls have those of all of them
   pub alike : (told : PlacedCalls) (callers : List A)
-      → ((j : ℕ) (r : A) → slice_get callers j ≡ Some r → shown r ≡ shown_calls (by j told))
+      → ((j : ℕ) (r : A) → slice_get callers j ≡ Some r → shown r ≡ logged_calls (by j told))
       → ((j : ℕ) → slice_get callers j ≡ None → by j told ≡ [])
-      → (c : ℕ) → by c (shown_by shown callers) ≡ by c (shown_calls told)
+      → (c : ℕ) → by c (logged_calls_of shown callers) ≡ by c (logged_calls told)
   alike told callers each others c = ⊎_elim
       (λ there. let here : 0 + c ≡ c = omega arith in
-      subst (λ w. by w (shown_by shown callers) ≡ by w (shown_calls told)) here
-      (told_own (shown_calls told) 0 c callers there.0 there.2 own))
-      (λ past. told_none (shown_calls told) 0 c callers (λ j r there. (
+      subst (λ w. by w (logged_calls_of shown callers) ≡ by w (logged_calls told)) here
+      (told_own (logged_calls told) 0 c callers there.0 there.2 own))
+      (λ past. told_none (logged_calls told) 0 c callers (λ j r there. (
         own j r there,
         λ same.
             let within = slice_get_within callers j r there in
             let over = past.0 in omega (arith, same, within, over),
       ))
-      ∙ sym (by-shown c told ∙ ap shown_calls (others c past.1)))
+      ∙ sym (by-shown c told ∙ ap logged_calls (others c past.1)))
       (slice_get_cases callers c).1
     where
-      own : (j : ℕ) (r : A) → slice_get callers j ≡ Some r → shown r ≡ by (0 + j) (shown_calls told)
+      own : (j : ℕ) (r : A) → slice_get callers j ≡ Some r → shown r ≡ by (0 + j) (logged_calls told)
       own j r there = let same : j ≡ 0 + j = omega arith in
-          each j r there ∙ sym (by-shown j told) ∙ ap (λ w. by w (shown_calls told)) same
+          each j r there ∙ sym (by-shown j told) ∙ ap (λ w. by w (logged_calls told)) same
 
 -- runners of which each has its caller's notes have those of all callers
 noted_from : (seed : List ℕ) (told : PlacedCalls) (k : ℕ) (script : List Section) (runners : List RunnerView) → length runners ≡ length script

@@ -7,7 +7,7 @@ use Rattle.turn_lock.specs.Passes.{SharedView}
 use Rattle.turn_lock.specs.PassParts.{with_other}
 use Rattle.call_history.specs.Entries.{by}
 use Rattle.call_history.proofs.Placing.{by-append}
-use Rattle.reply_text.specs.Shown.{PlacedShown, shown_calls}
+use Rattle.reply_text.specs.Logged.{PlacedLogged, logged_calls}
 use Rattle.reply_text.specs.declared.notes.Note.{Note}
 use Rattle.mount_model.specs.Port.{PlacedCalls}
 use Rattle.mount_shared.specs.SharedCalls.{MountPass}
@@ -88,18 +88,18 @@ as_before_both most shared old lower upper lower' upper' first others cut one tw
 }
 
 -- the shown entries of the calls of both halves
-pub shows_both : (border : ℕ) (told more : PlacedShown) (low up : MountPass) → Shows told (calls_of low)
+pub shows_both : (border : ℕ) (told more : PlacedLogged) (low up : MountPass) → Shows told (calls_of low)
     → Shows more (calls_of up) → ((c : ℕ) → c < border → by c (calls_of up) ≡ [])
     → ((c : ℕ) → border ≤ c → by c (calls_of low) ≡ []) → Shows (told ++ more) (calls_of (with_other low up))
 shows_both border told more low up one two none_up none_low c =
-    below_or_above c border (by c (told ++ more) ≡ shown_calls (by c (calls_of (with_other low up))))
+    below_or_above c border (by c (told ++ more) ≡ logged_calls (by c (calls_of (with_other low up))))
     (λ below. by-append c told more
-    ∙ ap₂ (λ (a b : PlacedShown). a ++ b) (one c) (two c ∙ ap shown_calls (none_up c below))
-    ∙ append-nil (shown_calls (by c (calls_of low)))
-    ∙ ap shown_calls (joined_low c low up (none_up c below)))
+    ∙ ap₂ (λ (a b : PlacedLogged). a ++ b) (one c) (two c ∙ ap logged_calls (none_up c below))
+    ∙ append-nil (logged_calls (by c (calls_of low)))
+    ∙ ap logged_calls (joined_low c low up (none_up c below)))
     (λ above. by-append c told more
-    ∙ ap₂ (λ (a b : PlacedShown). a ++ b) (one c ∙ ap shown_calls (none_low c above)) (two c)
-    ∙ ap shown_calls (joined_high c low up (none_low c above)))
+    ∙ ap₂ (λ (a b : PlacedLogged). a ++ b) (one c ∙ ap logged_calls (none_low c above)) (two c)
+    ∙ ap logged_calls (joined_high c low up (none_low c above)))
 
 -- ---- the calls of both halves
 

@@ -8,17 +8,17 @@ use Rattle.turn_lock.specs.Passes.{SharedView, first_pass}
 use Rattle.turn_lock.specs.PassParts.{under, over, lower_part, upper_part}
 use Rattle.call_history.specs.Entries.{by}
 use Rattle.call_history.proofs.Placing.{by-by_other}
-use Rattle.reply_text.specs.Shown.{PlacedShown, shown_calls}
+use Rattle.reply_text.specs.Logged.{PlacedLogged, logged_calls}
 use Rattle.reply_text.specs.declared.notes.Note.{Note}
 use Rattle.fsc_session.proofs.ShownRuns.{by-shown}
 use Rattle.mount_model.specs.History.{History}
 use Rattle.mount_model.specs.Port.{PlacedCalls}
-use Rattle.mount_shared.specs.SharedCalls.{MountPass, PassCame}
+use Rattle.mount_shared.specs.SharedCalls.{MountPass, PassAfterCalls}
 use Rattle.script_lang.specs.declared.commands.Section.{Section}
 use Rattle.fsc_session.specs.Asking.{AsksRightly}
 use Rattle.fsc_session.specs.Session.{IsRunOfSection, notes_of_section}
 use Rattle.fsc_session.specs.ScriptRun.{IsRunOfCaller, notes_by}
-use Rattle.script_runs.specs.Passes.{AreHalves, CanRun, IsAsBefore, RunFrom, Shows, calls_needed, calls_of}
+use Rattle.script_runs.specs.Passes.{AreHalves, CanRun, IsAsBefore, RunFrom, Shows, max_calls_of_sections, calls_of}
 
 -- ---- before the first call
 
@@ -27,7 +27,7 @@ positive zero is = absurd (cc is)
 positive (suc n) is = omega arith
 
 pub first_runs : (most : ℕ) (shared : SharedView) (script : List Section) (pass : MountPass) (numbers calls : ℕ)
-    → pass ≡ first_pass shared.table numbers calls → numbers ≡ length script → calls ≡ calls_needed most script
+    → pass ≡ first_pass shared.table numbers calls → numbers ≡ length script → calls ≡ max_calls_of_sections most script
     → 0 < length script → All AsksRightly script → CanRun most shared pass script
 first_runs most shared script pass numbers calls is count needed some asked =
     subst (λ p. CanRun most shared p script) (sym is) (record {
@@ -42,13 +42,13 @@ first_runs most shared script pass numbers calls is count needed some asked =
 
 pub halves : (most : ℕ) (shared : SharedView) (old lower upper : MountPass) (first others : List Section) (at give : ℕ)
     → CanRun most shared old (first ++ others) → 0 < length first → 0 < length others
-    → give ≡ calls_needed most others → at ≡ old.who + length first → lower ≡ lower_part at give old
+    → give ≡ max_calls_of_sections most others → at ≡ old.who + length first → lower ≡ lower_part at give old
     → upper ≡ upper_part at give old → AreHalves most shared old lower upper first others
 halves most shared old lower upper first others at give can some_first some_others given border low up =
     let numbers = can.numbers in
     let calls = can.calls in
     let long = length-append first others in
-    let needed : calls_needed most (first ++ others) ≡ calls_needed most first + calls_needed most others =
+    let needed : max_calls_of_sections most (first ++ others) ≡ max_calls_of_sections most first + max_calls_of_sections most others =
     sum_by-append _ first others in
     subst (λ p. AreHalves most shared old p upper first others) (sym low)
     (subst (λ p. AreHalves most shared old (lower_part at give old) p first others) (sym up)
@@ -110,18 +110,18 @@ pub record Called (old new : MountPass) (calls : PlacedCalls) : Type 0 where
   pub own : by old.who calls ≡ calls
 
 pub called_by : (lawful : History → Type 0) (old new : MountPass) (calls : PlacedCalls) → old.past ≡ [] → old.mine ≡ []
-    → PassCame lawful old calls new → by new.who new.mine ≡ new.mine → Called old new calls
-called_by lawful old new calls no_past no_own came own =
-    let mine : new.mine ≡ calls = came.made ∙ ap (λ (l : PlacedCalls). l ++ calls) no_own in
-    let past : new.past ≡ [] = came.same_past ∙ no_past in
+    → PassAfterCalls lawful old calls new → by new.who new.mine ≡ new.mine → Called old new calls
+called_by lawful old new calls no_past no_own after_calls own =
+    let mine : new.mine ≡ calls = after_calls.made ∙ ap (λ (l : PlacedCalls). l ++ calls) no_own in
+    let past : new.past ≡ [] = after_calls.same_past ∙ no_past in
     record {
       as_before = record {
-        same_table = came.same_table;
-        same_caller = came.same_caller;
-        same_high = came.same_high;
+        same_table = after_calls.same_table;
+        same_caller = after_calls.same_caller;
+        same_high = after_calls.same_high;
       };
       all = ap₂ (λ (a b : PlacedCalls). a ++ b) past mine;
-      own = subst (λ (w : ℕ). by w calls ≡ calls) came.same_caller
+      own = subst (λ (w : ℕ). by w calls ≡ calls) after_calls.same_caller
           (subst (λ (xs : PlacedCalls). by new.who xs ≡ xs) mine own);
     }
 
@@ -131,7 +131,7 @@ one_noted seed who section made notes own are =
     are ∙ ap (notes_of_section seed who section) (sym own)
     ∙ sym (append-nil (notes_of_section seed who section (by who made)))
 
-pub shows_same : (told : PlacedShown) (placed calls : PlacedCalls) → told ≡ shown_calls placed → calls ≡ placed
+pub shows_same : (told : PlacedLogged) (placed calls : PlacedCalls) → told ≡ logged_calls placed → calls ≡ placed
     → Shows told calls
 shows_same told placed calls is all c =
-    ap (by c) is ∙ by-shown c placed ∙ ap (λ (l : PlacedCalls). shown_calls (by c l)) (sym all)
+    ap (by c) is ∙ by-shown c placed ∙ ap (λ (l : PlacedCalls). logged_calls (by c l)) (sym all)

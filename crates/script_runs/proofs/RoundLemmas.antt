@@ -3,20 +3,20 @@ use Rattle.std.proofs.Common.{◌≡◌, ℕ, suc, ◌+◌, ◌-◌, ◌<◌, �
 use Rattle.std.proofs.lemmas.Bool.{lt-ltb, le-ltb}
 use Rattle.std.proofs.lemmas.List.{length-map}
 use Rattle.std.proofs.lemmas.Option.{slice_get_within}
-use Rattle.call_history.specs.Entries.{by, numbered}
+use Rattle.call_history.specs.Entries.{by, entries_with_places}
 use Rattle.call_history.specs.Placed.{entries_of}
 use Rattle.call_history.proofs.Placing.{numbered-append}
 use Rattle.mount_model.specs.History.{History, MountEntry}
 use Rattle.mount_model.specs.Port.{PlacedCalls}
-use Rattle.mount_shared.specs.SerialCalls.{SerialView, SerialCame, serial_view}
+use Rattle.mount_shared.specs.SerialCalls.{SerialView, SerialAfterCalls, serial_view}
 use Rattle.script_lang.specs.declared.commands.Section.{Section}
 use Rattle.fsc_commands.specs.Steps.{Steps, Reaches}
 use Rattle.fsc_commands.specs.Steps.Steps.{Done}
-use Rattle.fsc_session.specs.Running.{Stepped}
+use Rattle.fsc_session.specs.Running.{RunnerStep}
 use Rattle.fsc_session.specs.Runners.{RunnerView, state_of}
 use Rattle.fsc_session.specs.Rotation.{Waiting, round_steps, rounds_steps}
 use Rattle.fsc_commands.proofs.StepsLemmas.{entries_of-append}
-use Rattle.script_runs.specs.Turns.{InTurn, Rotates, Taken}
+use Rattle.script_runs.specs.Turns.{InTurn, Rotates, RunnerTurn}
 use Rattle.script_runs.specs.MountPlaces.{At, Goes, Stands}
 use Rattle.script_runs.proofs.TurnLemmas.{turns_in}
 
@@ -69,40 +69,40 @@ module _ (seed : List ℕ) (script : List Section) (whole : Steps (List Waiting)
 
 -- ---- the mount
 
-placed_on : (told made : PlacedCalls) (places : ℕ) → places ≡ length told → told ≡ numbered 0 (entries_of told) → made ≡ numbered places (entries_of made)
-    → told ++ made ≡ numbered 0 (entries_of (told ++ made))
+placed_on : (told made : PlacedCalls) (places : ℕ) → places ≡ length told → told ≡ entries_with_places 0 (entries_of told) → made ≡ entries_with_places places (entries_of made)
+    → told ++ made ≡ entries_with_places 0 (entries_of (told ++ made))
 placed_on told made places given one two =
     let behind : 0 + length (entries_of told) ≡ places = let n = length-map told (λ (x : ℕ × MountEntry). x.1) in omega (arith, n, given) in
-    ap₂ (λ (l r : PlacedCalls). l ++ r) one (two ∙ ap (λ n. numbered n (entries_of made)) (sym behind))
-    ∙ sym (numbered-append 0 (entries_of told) (entries_of made)) ∙ ap (numbered 0) (sym (entries_of-append told made))
+    ap₂ (λ (l r : PlacedCalls). l ++ r) one (two ∙ ap (λ n. entries_with_places n (entries_of made)) (sym behind))
+    ∙ sym (numbered-append 0 (entries_of told) (entries_of made)) ∙ ap (entries_with_places 0) (sym (entries_of-append told made))
 
-pub stands_on : {M : Type 0} (leads : History → M → Type 0) (caller : ℕ) (told made : PlacedCalls) (old new : At M)
-    → Stands leads told old → Goes leads caller old made new → Stands leads (told ++ made) new
-stands_on leads caller told made old new stood goes =
+pub stands_on : {M : Type 0} (reaches : History → M → Type 0) (caller : ℕ) (told made : PlacedCalls) (old new : At M)
+    → Stands reaches told old → Goes reaches caller old made new → Stands reaches (told ++ made) new
+stands_on reaches caller told made old new stood goes =
     let given = stood.given in
     let count = goes.given in
     record {
       placed = placed_on told made old.places given stood.placed goes.placed;
       given = count ∙ ap (λ k. k + length made) given ∙ sym (length-append told made);
-      led = subst (λ h. leads h new.machine) (sym (entries_of-append told made)) (goes.led (entries_of told) stood.led);
+      reached_by = subst (λ h. reaches h new.machine) (sym (entries_of-append told made)) (goes.reached_by (entries_of told) stood.reached_by);
     }
 
 -- calls by a port of the mount
-pub goes_by : {M : Type 0} (leads : History → M → Type 0) (caller left : ℕ) (mount : At M) (made : PlacedCalls)
+pub goes_by : {M : Type 0} (reaches : History → M → Type 0) (caller left : ℕ) (mount : At M) (made : PlacedCalls)
     (port : SerialView M) (mount' : At M) → mount'.machine ≡ port.machine → mount'.places ≡ port.places
-    → SerialCame leads (serial_view mount.machine mount.places caller left) made port → Goes leads caller mount made mount'
-goes_by leads caller left mount made port mount' one two came = record {
-  placed = came.placed;
-  given = two ∙ came.next;
-  own = came.own;
-  led = λ history so. subst (λ m. leads (history ++ entries_of made) m) (sym one) (came.led history so);
+    → SerialAfterCalls reaches (serial_view mount.machine mount.places caller left) made port → Goes reaches caller mount made mount'
+goes_by reaches caller left mount made port mount' one two after_calls = record {
+  placed = after_calls.placed;
+  given = two ∙ after_calls.next;
+  own = after_calls.own;
+  reached_by = λ history so. subst (λ m. reaches (history ++ entries_of made) m) (sym one) (after_calls.reached_by history so);
 }
 
 -- a command of a runner, if its calls are known to be the runner's
-pub taken_by : {P : Type 0} (came : PlacedCalls → P → Type 0) (port : P) (left before_left : ℕ) (seed : List ℕ)
-    (more : Bool) (old new : RunnerView) (stepped : Stepped came port left before_left seed more old new)
-    → by old.caller stepped.made ≡ stepped.made → Taken seed old new stepped.made
-taken_by came port left before_left seed more old new stepped own = record {
+pub taken_by : {P : Type 0} (after_calls : PlacedCalls → P → Type 0) (port : P) (left before_left : ℕ) (seed : List ℕ)
+    (more : Bool) (old new : RunnerView) (stepped : RunnerStep after_calls port left before_left seed more old new)
+    → by old.caller stepped.made ≡ stepped.made → RunnerTurn seed old new stepped.made
+taken_by after_calls port left before_left seed more old new stepped own = record {
   more = more;
   own = own;
   grown = stepped.grown;

@@ -16,12 +16,12 @@ use Rattle.fsc_commands.specs.Steps.{Steps, Reaches, names_from, names_in}
 use Rattle.fsc_commands.specs.Steps.Steps.{Done}
 use Rattle.fsc_commands.specs.Commands.{command_steps}
 use Rattle.fsc_session.specs.Asking.{AsksRightly}
-use Rattle.reply_text.specs.Shown.{PlacedShown, shown_calls}
+use Rattle.reply_text.specs.Logged.{PlacedLogged, logged_calls}
 use Rattle.fsc_session.specs.Running.{StepMakes}
 use Rattle.fsc_session.specs.Runners.{HasRun, RunnerView, state_of}
 use Rattle.fsc_session.specs.Rotation.{Waiting, waiting, turn_of, turn_steps, round_steps}
 use Rattle.fsc_commands.proofs.StepsLemmas.{entries_of-append, Reaches-on, Reaches-and_then, names_in-append, names_from-shown}
-use Rattle.script_runs.specs.Turns.{InTurn, Rotates, Taken}
+use Rattle.script_runs.specs.Turns.{InTurn, Rotates, RunnerTurn}
 
 -- ---- lists with one element changed
 
@@ -68,7 +68,7 @@ min_below n m k is below = omega (arith, is, below)
 
 -- if the caller has a command n, its steps were made; and if it has none, nothing was
 turn_made : (seed : List ℕ) (n caller : ℕ) (more : Bool) (old new : RunnerView) (made : PlacedCalls) (next : Waiting → Steps (List Waiting))
-    → old.caller ≡ caller → old.next ≡ min n (length old.section.commands) → new.section ≡ old.section → new.entries ≡ old.entries ++ shown_calls made
+    → old.caller ≡ caller → old.next ≡ min n (length old.section.commands) → new.section ≡ old.section → new.entries ≡ old.entries ++ logged_calls made
     → StepMakes seed more old new made
     → Reaches (turn_steps seed n caller (state_of old) next) (entries_of made) (next (state_of new))
 turn_made seed n caller false old new made next who at section grown so =
@@ -95,7 +95,7 @@ turn_made seed n caller true old new made next who at section grown so =
     (subst (λ (k : ℕ). Reaches (command_steps seed old.caller uid k names command.verb) (entries_of made) (Done outcome)) same so.3.1) in
     let state : waiting old.section (names_from names (entries_of made)) ≡ state_of new =
     ap₂ (λ (s : Section) (told : List (List ℕ)). waiting s told) (sym section)
-    (sym (names_from-shown names made) ∙ sym (names_in-append old.entries (shown_calls made)) ∙ ap (λ (l : PlacedShown). names_in l) (sym grown)) in
+    (sym (names_from-shown names made) ∙ sym (names_in-append old.entries (logged_calls made)) ∙ ap (λ (l : PlacedLogged). names_in l) (sym grown)) in
     subst (λ (o : Option Command). Reaches (turn_of seed n caller (state_of old) o next) (entries_of made) (next (state_of new))) (sym here)
     (subst (λ (w : Waiting). Reaches (turn_of seed n caller (state_of old) (Some command) next) (entries_of made) (next w)) state
     (Reaches-and_then names (command_steps seed caller uid n names command.verb) (λ told outcome. next (waiting old.section told)) (entries_of made) outcome follows))
@@ -167,7 +167,7 @@ unmoved seed script told made i turns j runner own differ before = record {
 }
 
 moved : (seed : List ℕ) (script : List Section) (told made : PlacedCalls) (n i : ℕ) (old new : RunnerView)
-    → by i made ≡ made → Taken seed old new made → InTurn seed script told n i old
+    → by i made ≡ made → RunnerTurn seed old new made → InTurn seed script told n i old
     → InTurn seed script (told ++ made) (n + 1) i new
 moved seed script told made n i old new own taken before = record {
   caller = taken.caller ∙ before.caller;
@@ -184,7 +184,7 @@ pub rotates_on : (seed : List ℕ) (script : List Section) (whole : Steps (List 
     → Rotates seed script whole
     (round_steps seed n i (map state_of (take i runners)) (map state_of (drop i runners)) last)
     (turns_in n i) runners told
-    → Taken seed old new made
+    → RunnerTurn seed old new made
     → Rotates seed script whole
     (round_steps seed n (i + 1) (map state_of (take (i + 1) (set runners i new)))
     (map state_of (drop (i + 1) (set runners i new))) last)

@@ -1,7 +1,7 @@
 -- Callers before their first commands, and what they have received in the end.
 use Rattle.std.specs.Prelude.{ℕ, ◌+◌, List, [], ◌∷◌, ◌++◌, map}
 use Rattle.script_lang.specs.declared.commands.Section.{Section}
-use Rattle.reply_text.specs.Shown.{PlacedShown}
+use Rattle.reply_text.specs.Logged.{PlacedLogged}
 use Rattle.reply_text.specs.declared.notes.Note.{Note}
 use Rattle.fsc_session.specs.Runners.{RunnerView, runner_view}
 
@@ -15,9 +15,9 @@ abbrev pub sections_of : List RunnerView → List Section
 sections_of runners = map (λ runner. runner.section) runners
 
 -- the shown entries of each caller's calls, caller after caller
-abbrev pub shown_by : {A : Type 0} → (A → PlacedShown) → List A → PlacedShown
-shown_by shown [] = []
-shown_by shown (caller ∷ more) = shown caller ++ shown_by shown more
+abbrev pub logged_calls_of : {A : Type 0} → (A → PlacedLogged) → List A → PlacedLogged
+logged_calls_of shown [] = []
+logged_calls_of shown (caller ∷ more) = shown caller ++ logged_calls_of shown more
 
 -- and their notes
 abbrev pub noted_by : List RunnerView → List Note

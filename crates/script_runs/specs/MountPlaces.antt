@@ -1,6 +1,6 @@
 -- The mount between two turns: its state is that after all entries so far, whose places count from 0.
 use Rattle.std.specs.Prelude.{◌≡◌, ℕ, ◌+◌, ◌++◌, length}
-use Rattle.call_history.specs.Entries.{by, numbered}
+use Rattle.call_history.specs.Entries.{by, entries_with_places}
 use Rattle.call_history.specs.Placed.{entries_of}
 use Rattle.mount_model.specs.History.{History}
 use Rattle.mount_model.specs.Port.{PlacedCalls}
@@ -15,16 +15,16 @@ at machine places = record { machine = machine; places = places }
 
 -- the mount is in the state after all of its entries so far, whose places count from 0, and has given as
 -- many places
-pub record Stands {M : Type 0} (leads : History → M → Type 0) (told : PlacedCalls) (mount : At M)
+pub record Stands {M : Type 0} (reaches : History → M → Type 0) (told : PlacedCalls) (mount : At M)
     : Type 0 where
-  pub placed : told ≡ numbered 0 (entries_of told)
+  pub placed : told ≡ entries_with_places 0 (entries_of told)
   pub given : mount.places ≡ length told
-  pub led : leads (entries_of told) mount.machine
+  pub reached_by : reaches (entries_of told) mount.machine
 
 -- these calls of a caller went to the mount, and their places count on
-pub record Goes {M : Type 0} (leads : History → M → Type 0) (caller : ℕ) (old : At M)
+pub record Goes {M : Type 0} (reaches : History → M → Type 0) (caller : ℕ) (old : At M)
     (made : PlacedCalls) (new : At M) : Type 0 where
-  pub placed : made ≡ numbered old.places (entries_of made)
+  pub placed : made ≡ entries_with_places old.places (entries_of made)
   pub given : new.places ≡ old.places + length made
   pub own : by caller made ≡ made
-  pub led : (history : History) → leads history old.machine → leads (history ++ entries_of made) new.machine
+  pub reached_by : (history : History) → reaches history old.machine → reaches (history ++ entries_of made) new.machine

@@ -5,13 +5,13 @@ use Rattle.mount_model.specs.Port.{PlacedCalls}
 use Rattle.turn_lock.specs.Passes.{SharedView}
 use Rattle.mount_shared.specs.SharedCalls.{MountPass}
 use Rattle.script_lang.specs.declared.commands.Section.{Section}
-use Rattle.reply_text.specs.Shown.{PlacedShown, shown_calls}
+use Rattle.reply_text.specs.Logged.{PlacedLogged, logged_calls}
 use Rattle.fsc_session.specs.Asking.{AsksRightly}
 use Rattle.fsc_session.specs.ScriptRun.{IsRunOfCaller}
 
 -- how many calls the commands of sections make, if each makes `most`
-abbrev pub calls_needed : ℕ → List Section → ℕ
-calls_needed most sections = sum_by (λ section. most * length section.commands) sections
+abbrev pub max_calls_of_sections : ℕ → List Section → ℕ
+max_calls_of_sections most sections = sum_by (λ section. most * length section.commands) sections
 
 -- the pass belongs to this shared machine, and no call was made with it; it has a caller's number for each
 -- section, of which there are one or more, and `most` calls for each command
@@ -19,7 +19,7 @@ pub record CanRun (most : ℕ) (shared : SharedView) (pass : MountPass) (section
   pub belongs : pass.table ≡ shared.table
   pub some_section : 0 < length sections
   pub numbers : pass.who + length sections ≡ pass.high
-  pub calls : calls_needed most sections ≤ pass.left
+  pub calls : max_calls_of_sections most sections ≤ pass.left
   pub no_past : pass.past ≡ []
   pub no_own : pass.mine ≡ []
   pub asked : All AsksRightly sections
@@ -51,5 +51,5 @@ pub record RunFrom (seed : List ℕ) (who : ℕ) (sections : List Section) (plac
   pub none : (caller : ℕ) → caller < who → by caller placed ≡ []
 
 -- `told` has, caller by caller, the shown entries of these calls
-abbrev pub Shows : PlacedShown → PlacedCalls → Type 0
-Shows told placed = (caller : ℕ) → by caller told ≡ shown_calls (by caller placed)
+abbrev pub Shows : PlacedLogged → PlacedCalls → Type 0
+Shows told placed = (caller : ℕ) → by caller told ≡ logged_calls (by caller placed)

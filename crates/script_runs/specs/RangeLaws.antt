@@ -8,7 +8,7 @@ use Rattle.call_history.specs.Placed.{entries_of}
 use Rattle.mount_model.specs.History.{History, MountEntry}
 use Rattle.mount_model.specs.Port.{PlacedCalls}
 use Rattle.reply_text.specs.Ranges.{EntryIsInRange}
-use Rattle.script_runs.specs.InRange.{AreInRange, RangedCame}
+use Rattle.script_runs.specs.InRange.{AreInRange, RangedAfterCalls}
 
 -- those of both
 pub are_in_range-append : (e f : PlacedCalls) → AreInRange e → AreInRange f → AreInRange (e ++ f)
@@ -17,22 +17,22 @@ are_in_range-append e f p q =
     (All-append EntryIsInRange (entries_of e) (entries_of f) p q)
 
 module _ {P : Type 0} where
-  pub RangedCame-none : (came : P → PlacedCalls → P → Type 0) (none : (port : P) → came port [] port)
+  pub RangedAfterCalls-none : (after_calls : P → PlacedCalls → P → Type 0) (none : (port : P) → after_calls port [] port)
       (port : P)
-      → RangedCame came port [] port
-  RangedCame-none came none port = record { came_by = none port; ranged = All-nil EntryIsInRange }
+      → RangedAfterCalls after_calls port [] port
+  RangedAfterCalls-none after_calls none port = record { reached_by_call = none port; ranged = All-nil EntryIsInRange }
 
-  pub RangedCame-on : (came : P → PlacedCalls → P → Type 0)
-      (more : (first second third : P) (e f : PlacedCalls) → came first e second → came second f third
-      → came first (e ++ f) third)
+  pub RangedAfterCalls-on : (after_calls : P → PlacedCalls → P → Type 0)
+      (more : (first second third : P) (e f : PlacedCalls) → after_calls first e second → after_calls second f third
+      → after_calls first (e ++ f) third)
       (first second third : P) (e f : PlacedCalls)
-      → RangedCame came first e second → RangedCame came second f third → RangedCame came first (e ++ f) third
-  RangedCame-on came more first second third e f p q = record {
-    came_by = more first second third e f p.came_by q.came_by;
+      → RangedAfterCalls after_calls first e second → RangedAfterCalls after_calls second f third → RangedAfterCalls after_calls first (e ++ f) third
+  RangedAfterCalls-on after_calls more first second third e f p q = record {
+    reached_by_call = more first second third e f p.reached_by_call q.reached_by_call;
     ranged = are_in_range-append e f p.ranged q.ranged;
   }
 
-  pub RangedCame-caller : (who : P → ℕ) (came : P → PlacedCalls → P → Type 0)
-      (one : (first second : P) (e : PlacedCalls) → came first e second → who second ≡ who first)
-      (first second : P) (e : PlacedCalls) → RangedCame came first e second → who second ≡ who first
-  RangedCame-caller who came one first second e p = one first second e p.came_by
+  pub RangedAfterCalls-caller : (who : P → ℕ) (after_calls : P → PlacedCalls → P → Type 0)
+      (one : (first second : P) (e : PlacedCalls) → after_calls first e second → who second ≡ who first)
+      (first second : P) (e : PlacedCalls) → RangedAfterCalls after_calls first e second → who second ≡ who first
+  RangedAfterCalls-caller who after_calls one first second e p = one first second e p.reached_by_call

@@ -7,22 +7,22 @@ use Rattle.fsc_commands.specs.Steps.{Steps}
 use Rattle.fsc_session.specs.Runners.{RunnerView}
 use Rattle.fsc_session.specs.Rotation.{Waiting}
 use Rattle.script_runs.specs.InRange.{AreInRange}
-use Rattle.script_runs.specs.Turns.{Rotates, Taken}
+use Rattle.script_runs.specs.Turns.{Rotates, RunnerTurn}
 use Rattle.script_runs.specs.MountPlaces.{At, Goes, Stands}
 
 -- the mount is in the state after the calls `told`, which are the runners' and in range
-pub record Rotating {M : Type 0} (leads : History → M → Type 0) (seed : List ℕ) (script : List Section)
+pub record Rotating {M : Type 0} (reaches : History → M → Type 0) (seed : List ℕ) (script : List Section)
     (whole rest : Steps (List Waiting)) (turns : ℕ → ℕ) (runners : List RunnerView) (mount : At M)
     : Type 0 where
   pub told : PlacedCalls
-  pub stands : Stands leads told mount
+  pub represents : Stands reaches told mount
   pub ranged : AreInRange told
   pub rotates : Rotates seed script whole rest turns runners told
 
 -- a runner's turn on the mount: these calls
-pub record TurnMade {M : Type 0} (leads : History → M → Type 0) (seed : List ℕ)
+pub record TurnOf {M : Type 0} (reaches : History → M → Type 0) (seed : List ℕ)
     (mount : At M) (old : RunnerView) (mount' : At M) (new : RunnerView) : Type 0 where
   pub made : PlacedCalls
-  pub goes : Goes leads old.caller mount made mount'
+  pub goes : Goes reaches old.caller mount made mount'
   pub ranged : AreInRange made
-  pub taken : Taken seed old new made
+  pub taken : RunnerTurn seed old new made

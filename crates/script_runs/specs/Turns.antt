@@ -4,7 +4,7 @@ use Rattle.call_history.specs.Entries.{by}
 use Rattle.call_history.specs.Placed.{entries_of}
 use Rattle.mount_model.specs.Port.{PlacedCalls}
 use Rattle.script_lang.specs.declared.commands.Section.{Section}
-use Rattle.reply_text.specs.Shown.{shown_calls}
+use Rattle.reply_text.specs.Logged.{logged_calls}
 use Rattle.fsc_commands.specs.Steps.{Steps, Reaches}
 use Rattle.fsc_session.specs.Asking.{AsksRightly}
 use Rattle.fsc_session.specs.Running.{StepMakes}
@@ -31,10 +31,10 @@ pub record Rotates (seed : List ℕ) (script : List Section) (whole rest : Steps
   pub order : Reaches whole (entries_of told) rest
 
 -- a runner's turn: it made these calls
-pub record Taken (seed : List ℕ) (old new : RunnerView) (made : PlacedCalls) : Type 0 where
+pub record RunnerTurn (seed : List ℕ) (old new : RunnerView) (made : PlacedCalls) : Type 0 where
   pub more : Bool
   pub own : by old.caller made ≡ made
-  pub grown : new.entries ≡ old.entries ++ shown_calls made
+  pub grown : new.entries ≡ old.entries ++ logged_calls made
   pub caller : new.caller ≡ old.caller
   pub section : new.section ≡ old.section
   pub step : StepMakes seed more old new made

@@ -2,14 +2,14 @@
 //! one mount has in common with one on two.
 #![tactic(auto)]
 
+mod output;
 mod passes;
 mod ranged_port;
 mod rotation;
 mod threads;
-mod told;
 
-pub use passes::{calls_needed, cut, end};
+pub use output::{PlacedVec, RunOutput, history_of};
+pub use passes::{cut, end, max_calls_of_sections};
 pub use ranged_port::RangedPort;
 pub use rotation::{longest, rotate, run_in_rotation};
 pub use threads::run_in_threads;
-pub use told::{PlacedVec, Told, history_of};

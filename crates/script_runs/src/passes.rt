@@ -1,12 +1,12 @@
 //! A pass to a shared mount: what its calls may be, how it is cut in two, and how the sharing ends.
 
 ghost use Rattle.std.specs.Prelude.{◌≡◌, ℕ, ◌<◌, ◌≤◌, ◌++◌, length, IfOk, IfSome, IfNone, OnErr};
-ghost use Rattle.call_history.specs.declared.TheConstants.{MOST_PLACES};
+ghost use Rattle.call_history.specs.declared.TheConstants.{MAX_PLACES};
 ghost use Rattle.call_history.specs.Entries.{by, entries_by};
 ghost use Rattle.turn_lock.specs.Passes.{merged_entries};
-ghost use Rattle.script_runs.specs.Passes.{AreHalves, CanRun, calls_needed};
+ghost use Rattle.script_runs.specs.Passes.{AreHalves, CanRun, max_calls_of_sections};
 
-use call_history::MOST_PLACES;
+use call_history::MAX_PLACES;
 use mount_shared::MountMachine;
 use script_lang::Section;
 use std::alloc::AllocError;
@@ -14,16 +14,16 @@ use turn_lock::{Pass, Shared};
 
 /// Returns how many calls the commands of the sections make, if each makes `most`. Returns `None` if a
 /// history has fewer places.
-pub fn calls_needed(sections: &[Section], most: u64) -> Option<u64>
-    ensures some { IfSome result (λ calls. (calls ≡ calls_needed most sections.now) × (calls ≤ MOST_PLACES)) }
-    ensures none { IfNone result (MOST_PLACES < calls_needed most sections.now) }
+pub fn max_calls_of_sections(sections: &[Section], most: u64) -> Option<u64>
+    ensures some { IfSome result (λ calls. (calls ≡ max_calls_of_sections most sections.now) × (calls ≤ MAX_PLACES)) }
+    ensures none { IfNone result (MAX_PLACES < max_calls_of_sections most sections.now) }
 {
     let mut calls: u64 = 0;
     'sections: for section in sections {
         let commands = section.commands.len() as u64;
         calls = calls.saturating_add(most.saturating_mul(commands));
     }
-    if calls > MOST_PLACES {
+    if calls > MAX_PLACES {
         return None;
     }
     Some(calls)
@@ -46,7 +46,7 @@ pub fn cut<M: MountMachine>(
         AreHalves most shared.now pass.old pass.new upper first.now others.now) }
     ensures kept { OnErr result (pass.new ≡ pass.old) }
 {
-    let Some(calls) = calls_needed(others, most) else {
+    let Some(calls) = max_calls_of_sections(others, most) else {
         return Err(AllocError);
     };
     // Its range shows that the numbers fit.

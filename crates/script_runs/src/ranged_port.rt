@@ -1,8 +1,8 @@
 //! A port that shows each call and its reply to be in range.
 
 ghost use Rattle.std.specs.Prelude.{◌≡◌};
-ghost use Rattle.script_runs.specs.InRange.{RangedCame};
-ghost use Rattle.script_runs.specs.RangeLaws.{RangedCame-none, RangedCame-on, RangedCame-caller};
+ghost use Rattle.script_runs.specs.InRange.{RangedAfterCalls};
+ghost use Rattle.script_runs.specs.RangeLaws.{RangedAfterCalls-none, RangedAfterCalls-on, RangedAfterCalls-caller};
 
 use mount_model::{Call, MountPort, Placed};
 use reply_text::{call_in_range, reply_in_range};
@@ -45,7 +45,7 @@ impl<P: MountPort> MountPort for RangedPort<P> {
 
     ghost floor = { λ port. P.floor port };
 
-    ghost came = { RangedCame P.came };
+    ghost after_calls = { RangedAfterCalls P.after_calls };
 
     fn caller(&self) -> u32 {
         self.port.caller()
@@ -63,9 +63,9 @@ impl<P: MountPort> MountPort for RangedPort<P> {
         placed
     }
 
-    ghost by_none = { RangedCame-none P.came P.by_none };
+    ghost by_none = { RangedAfterCalls-none P.after_calls P.by_none };
 
-    ghost by_more = { RangedCame-on P.came P.by_more };
+    ghost by_more = { RangedAfterCalls-on P.after_calls P.by_more };
 
-    ghost one_caller = { RangedCame-caller P.who P.came P.one_caller };
+    ghost one_caller = { RangedAfterCalls-caller P.who P.after_calls P.one_caller };
 }

@@ -2,21 +2,21 @@
 
 ghost use Rattle.std.specs.Prelude.{◌≡◌, ◌≤◌, [], length, map, IfOk, OnOk};
 ghost use Rattle.script_lang.specs.Spelled.{IsSpelled};
-ghost use Rattle.script_lang.specs.declared.limits.TheConstants.{MOST_CALLERS};
+ghost use Rattle.script_lang.specs.declared.limits.TheConstants.{MAX_CALLERS};
 ghost use Rattle.fsc_commands.specs.Steps.Steps.{Done};
 ghost use Rattle.fsc_session.specs.Asking.{AsksRightly};
 ghost use Rattle.fsc_session.specs.Runners.{state_of};
 ghost use Rattle.fsc_session.specs.Rotation.{longest, rounds_steps};
-ghost use Rattle.script_runs.specs.Callers.{fresh_runners, noted_by, sections_of, shown_by};
-ghost use Rattle.script_runs.specs.Rotating.{Rotating, TurnMade};
-ghost use Rattle.script_runs.specs.Runs.{IsRunBefore, IsSerialRun, TellsRun};
+ghost use Rattle.script_runs.specs.Callers.{fresh_runners, noted_by, sections_of, logged_calls_of};
+ghost use Rattle.script_runs.specs.Rotating.{Rotating, TurnOf};
+ghost use Rattle.script_runs.specs.Runs.{IsRunBefore, IsSerialRun, IsLogOf};
 ghost use Rattle.script_runs.specs.MountPlaces.{at};
 
+use crate::output::RunOutput;
 use crate::ranged_port::RangedPort;
-use crate::told::Told;
 use argon_kdf::Stretch;
-use call_history::{MOST_PLACES, sort_by_place};
-use fsc_commands::MOST_CALLS;
+use call_history::{MAX_PLACES, sort_by_place};
+use fsc_commands::MAX_CALLS;
 use fsc_outside::Gate;
 use fsc_session::{Runner, scrub_stack};
 use mount_shared::{MountMachine, SerialMount};
@@ -36,11 +36,11 @@ pub fn run_in_rotation<G: Gate, S: Stretch, M: MountMachine>(
     gate: &G,
     stretches: &S,
     machine: M,
-) -> Result<Told, AllocError>
+) -> Result<RunOutput, AllocError>
     requires spelled { IsSpelled script.now }
     requires ready { S.ready stretches.now }
-    requires leads { M.leads [] machine }
-    ensures { IfOk result (λ told. TellsRun (IsSerialRun M.lawful) seed.now script.now
+    requires reaches { M.reaches [] machine }
+    ensures { IfOk result (λ told. IsLogOf (IsSerialRun M.lawful) seed.now script.now
         told.entries.items told.notes.items) }
 {
     let (told, _machine) = rotate(alloc, script, seed, gate, stretches, machine)?;
@@ -55,11 +55,11 @@ pub fn rotate<G: Gate, S: Stretch, M: MountMachine>(
     gate: &G,
     stretches: &S,
     machine: M,
-) -> Result<(Told, M), AllocError>
+) -> Result<(RunOutput, M), AllocError>
     requires spelled { IsSpelled script.now }
     requires ready { S.ready stretches.now }
-    requires leads { M.leads [] machine }
-    ensures { IfOk result (λ r. TellsRun (IsRunBefore (λ history. M.leads history r.1) (IsSerialRun M.lawful))
+    requires reaches { M.reaches [] machine }
+    ensures { IfOk result (λ r. IsLogOf (IsRunBefore (λ history. M.reaches history r.1) (IsSerialRun M.lawful))
         seed.now script.now r.0.entries.items r.0.notes.items) }
 {
     let sections = script.as_slice();
@@ -74,7 +74,7 @@ pub fn rotate<G: Gate, S: Stretch, M: MountMachine>(
         stretches,
     )?;
     scrub_stack();
-    let mut told = told_by(alloc, runners)?;
+    let mut told = output_of_runners(alloc, runners)?;
     sort_by_place(&mut told.entries)?;
     Ok((told, mount.machine))
 }
@@ -90,7 +90,7 @@ pub fn longest(sections: &[Section]) -> usize
 
 // Returns a runner for each section, before its first command.
 fn fresh_runners(alloc: Global, sections: &[Section]) -> Result<Vec<Runner<'_>>, AllocError>
-    requires { length sections.now ≤ MOST_CALLERS }
+    requires { length sections.now ≤ MAX_CALLERS }
     ensures { IfOk result (λ runners. runners.items ≡ fresh_runners 0 sections.now) }
 {
     let mut runners = Vec::new(alloc);
@@ -111,11 +111,11 @@ fn run_rounds<G: Gate, S: Stretch, M: MountMachine>(
     stretches: &S,
 ) -> Result<SerialMount<M>, AllocError>
     requires ready { S.ready stretches.now }
-    requires begins { Rotating M.leads seed.now (sections_of runners.old)
+    requires begins { Rotating M.reaches seed.now (sections_of runners.old)
         (rounds_steps seed.now rounds 0 (map state_of runners.old))
         (rounds_steps seed.now rounds 0 (map state_of runners.old))
         (λ j. 0) runners.old (at mount.machine mount.places) }
-    ensures turned { IfOk result (λ after. Rotating M.leads seed.now (sections_of runners.old)
+    ensures turned { IfOk result (λ after. Rotating M.reaches seed.now (sections_of runners.old)
         (rounds_steps seed.now rounds 0 (map state_of runners.old))
         (Done (map state_of runners.new))
         (λ j. rounds) runners.new (at after.machine after.places)) }
@@ -141,7 +141,7 @@ fn take_turn<G: Gate, S: Stretch, M: MountMachine>(
 ) -> Result<SerialMount<M>, AllocError>
     requires ready { S.ready stretches.now }
     requires asked { AsksRightly runner.old.section }
-    ensures { IfOk result (λ after. TurnMade M.leads seed.now (at mount.machine mount.places) runner.old
+    ensures { IfOk result (λ after. TurnOf M.reaches seed.now (at mount.machine mount.places) runner.old
         (at after.machine after.places) runner.new) }
 {
     let number = runner.caller();
@@ -166,27 +166,27 @@ fn step<S: Stretch, M: MountMachine>(
 ) -> Result<SerialMount<M>, AllocError>
     requires ready { S.ready stretches.now }
     requires asked { AsksRightly runner.old.section }
-    ensures { IfOk result (λ after. TurnMade M.leads seed.now (at mount.machine mount.places) runner.old
+    ensures { IfOk result (λ after. TurnOf M.reaches seed.now (at mount.machine mount.places) runner.old
         (at after.machine after.places) runner.new) }
 {
-    if mount.places > MOST_PLACES - MOST_CALLS {
+    if mount.places > MAX_PLACES - MAX_CALLS {
         return Err(AllocError);
     }
-    let port = mount.port(runner.caller(), MOST_CALLS);
+    let port = mount.port(runner.caller(), MAX_CALLS);
     let mut port = RangedPort::over(port);
     runner.step(alloc, &mut port, stretches, seed)?;
     Ok(port.back().back())
 }
 
 // Returns what all runners received, runner after runner.
-fn told_by(alloc: Global, runners: Vec<Runner>) -> Result<Told, AllocError>
+fn output_of_runners(alloc: Global, runners: Vec<Runner>) -> Result<RunOutput, AllocError>
     ensures entries { IfOk result (λ told. told.entries.items
-        ≡ shown_by (λ runner. runner.entries) runners.entry.items) }
+        ≡ logged_calls_of (λ runner. runner.entries) runners.entry.items) }
     ensures notes { IfOk result (λ told. told.notes.items ≡ noted_by runners.entry.items) }
 {
-    let mut told = Told::nothing(alloc);
+    let mut told = RunOutput::nothing(alloc);
     'runners: for runner in runners {
-        told.append(Told::of_caller(runner.ran()))?;
+        told.append(RunOutput::of_caller(runner.ran()))?;
     }
     Ok(told)
 }

@@ -3,17 +3,17 @@
 ghost use Rattle.std.specs.Prelude.{◌≡◌, ◌<◌, [], ◌++◌, length, IfOk};
 ghost use Rattle.std.specs.Thread.{IsSync};
 ghost use Rattle.script_lang.specs.Spelled.{IsSpelled};
-ghost use Rattle.fsc_commands.specs.declared.TheConstants.{MOST_CALLS};
+ghost use Rattle.fsc_commands.specs.declared.TheConstants.{MAX_CALLS};
 ghost use Rattle.script_runs.specs.Passes.{AreHalves, CanRun};
-ghost use Rattle.script_runs.specs.Runs.{IsLawfulRun, TellsRun};
+ghost use Rattle.script_runs.specs.Runs.{IsLawfulRun, IsLogOf};
 ghost use Rattle.script_runs.specs.Threaded.{HaveRun};
 
-use crate::passes::{calls_needed, cut, end};
+use crate::output::RunOutput;
+use crate::passes::{cut, end, max_calls_of_sections};
 use crate::ranged_port::RangedPort;
-use crate::told::Told;
 use argon_kdf::Stretch;
 use call_history::sort_by_place;
-use fsc_commands::MOST_CALLS;
+use fsc_commands::MAX_CALLS;
 use fsc_outside::Gate;
 use fsc_session::run_caller;
 use mount_shared::{MountMachine, SharedPort};
@@ -49,18 +49,18 @@ pub fn run_in_threads<
     gate: &G,
     stretches: &S,
     machine: M,
-) -> Result<Told, AllocError>
+) -> Result<RunOutput, AllocError>
     requires spelled { IsSpelled script.now }
     requires ready { S.ready stretches.now }
-    requires leads { M.leads [] machine }
-    ensures { IfOk result (λ told. TellsRun (IsLawfulRun M.lawful) seed.now script.now
+    requires reaches { M.reaches [] machine }
+    ensures { IfOk result (λ told. IsLogOf (IsLawfulRun M.lawful) seed.now script.now
         told.entries.items told.notes.items) }
 {
     let sections = script.as_slice();
     if sections.is_empty() {
         return Ok(run_nobody(alloc, machine));
     }
-    let Some(calls) = calls_needed(sections, MOST_CALLS) else {
+    let Some(calls) = max_calls_of_sections(sections, MAX_CALLS) else {
         return Err(AllocError);
     };
     let (shared, pass) = Shared::start(alloc, machine, sections.len() as u32, calls)?;
@@ -72,12 +72,12 @@ pub fn run_in_threads<
 }
 
 // Returns the result of a run without callers. Nothing is shared, and no thread starts.
-fn run_nobody<M: MountMachine>(alloc: Global, machine: M) -> Told
-    requires { M.leads [] machine }
+fn run_nobody<M: MountMachine>(alloc: Global, machine: M) -> RunOutput
+    requires { M.reaches [] machine }
     ensures none { (result.entries.items ≡ []) × (result.notes.items ≡ []) }
     ensures lawful { M.lawful [] }
 {
-    Told::nothing(alloc)
+    RunOutput::nothing(alloc)
 }
 
 // Runs the section of each of the callers in a thread of its own. Returns when all have ended.
@@ -89,9 +89,9 @@ fn run_all<R: Threads + Wait + Sync, G: Gate + Sync, S: Stretch + Sync, M: Mount
     stretches: &S,
     callers: Callers<M>,
     seed: &[u8; 32],
-) -> Result<(Pass<M>, Told), AllocError>
+) -> Result<(Pass<M>, RunOutput), AllocError>
     requires ready { S.ready stretches.now }
-    requires can_run { CanRun MOST_CALLS shared.now callers.pass callers.sections.now }
+    requires can_run { CanRun MAX_CALLS shared.now callers.pass callers.sections.now }
     ensures { IfOk result (λ ran. HaveRun seed.now callers.entry.pass callers.entry.sections.now ran.0
         ran.1.entries.items ran.1.notes.items) }
 {
@@ -101,15 +101,15 @@ fn run_all<R: Threads + Wait + Sync, G: Gate + Sync, S: Stretch + Sync, M: Mount
     let (lower, upper) = halve(shared, callers)?;
     let (one, two) = join(
         rt,
-        || -> Result<(Pass<M>, Told), AllocError>
+        || -> Result<(Pass<M>, RunOutput), AllocError>
             requires { IsSync R.row × IsSync G.row × IsSync S.row × S.ready stretches.now
-                × CanRun MOST_CALLS shared.now lower.pass lower.sections.now }
+                × CanRun MAX_CALLS shared.now lower.pass lower.sections.now }
             ensures { IfOk result (λ ran. HaveRun seed.entry.now lower.entry.pass lower.entry.sections.now
                 ran.0 ran.1.entries.items ran.1.notes.items) }
         { run_all(rt, alloc, shared, gate, stretches, lower, seed) },
-        || -> Result<(Pass<M>, Told), AllocError>
+        || -> Result<(Pass<M>, RunOutput), AllocError>
             requires { IsSync R.row × IsSync G.row × IsSync S.row × S.ready stretches.now
-                × CanRun MOST_CALLS shared.now upper.pass upper.sections.now }
+                × CanRun MAX_CALLS shared.now upper.pass upper.sections.now }
             ensures { IfOk result (λ ran. HaveRun seed.entry.now upper.entry.pass upper.entry.sections.now
                 ran.0 ran.1.entries.items ran.1.notes.items) }
         { run_all(rt, alloc, shared, gate, stretches, upper, seed) },
@@ -130,9 +130,9 @@ fn run_one<R: Wait, G: Gate, S: Stretch, M: MountMachine>(
     stretches: &S,
     callers: Callers<M>,
     seed: &[u8; 32],
-) -> Result<(Pass<M>, Told), AllocError>
+) -> Result<(Pass<M>, RunOutput), AllocError>
     requires ready { S.ready stretches.now }
-    requires can_run { CanRun MOST_CALLS shared.now callers.pass callers.sections.now }
+    requires can_run { CanRun MAX_CALLS shared.now callers.pass callers.sections.now }
     requires one { length callers.sections.now ≡ 1 }
     ensures { IfOk result (λ ran. HaveRun seed.now callers.entry.pass callers.entry.sections.now ran.0
         ran.1.entries.items ran.1.notes.items) }
@@ -144,7 +144,7 @@ fn run_one<R: Wait, G: Gate, S: Stretch, M: MountMachine>(
     let pass = port.back().back();
     // This shows that its own entries are its caller's.
     let _caller = pass.who();
-    Ok((pass, Told::of_caller(ran)))
+    Ok((pass, RunOutput::of_caller(ran)))
 }
 
 // Cuts callers in two: the first half retain the pass, and the others get one of their own.
@@ -152,16 +152,16 @@ fn halve<'a, M: MountMachine>(
     shared: &Shared<M>,
     callers: Callers<'a, M>,
 ) -> Result<(Callers<'a, M>, Callers<'a, M>), AllocError>
-    requires can_run { CanRun MOST_CALLS shared.now callers.pass callers.sections.now }
+    requires can_run { CanRun MAX_CALLS shared.now callers.pass callers.sections.now }
     requires several { 1 < length callers.sections.now }
     ensures whole { IfOk result (λ halves. callers.entry.sections.now
         ≡ halves.0.sections.now ++ halves.1.sections.now) }
-    ensures halves { IfOk result (λ halves. AreHalves MOST_CALLS shared.now callers.entry.pass
+    ensures halves { IfOk result (λ halves. AreHalves MAX_CALLS shared.now callers.entry.pass
         halves.0.pass halves.1.pass halves.0.sections.now halves.1.sections.now) }
 {
     let Callers { mut pass, sections } = callers;
     let (first, others) = sections.split_at(sections.len() / 2);
-    let upper = cut(shared, &mut pass, first, others, MOST_CALLS)?;
+    let upper = cut(shared, &mut pass, first, others, MAX_CALLS)?;
     Ok((
         Callers {
             pass,

@@ -14,7 +14,7 @@ pub(crate) struct Counting {
 impl Machine for Counting {
     type Call = Call;
 
-    type Lent = Reply;
+    type Pending = Reply;
 
     type Reply = Reply;
 
@@ -24,7 +24,7 @@ impl Machine for Counting {
 
     ghost lawful = { λ _. Unit {0} };
 
-    ghost leads = { λ _ _. Unit {0} };
+    ghost reaches = { λ _ _. Unit {0} };
 
     fn begin(&mut self, _who: u32, _call: &Call) -> Reply {
         let number = self.calls;
@@ -40,7 +40,7 @@ impl Machine for Counting {
         lent
     }
 
-    ghost leads_lawful = { λ _ _ _. tt };
+    ghost reaches_lawful = { λ _ _ _. tt };
 }
 
 impl MountMachine for Counting {

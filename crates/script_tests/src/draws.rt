@@ -11,10 +11,10 @@ use std::alloc::{AllocError, Global};
 use std::process::Abort;
 
 // A caller, a command, a purpose, and the bytes that are derived for them.
-type DrawRow = (u8, u64, Purpose, &'static str);
+type DerivationRow = (u8, u64, Purpose, &'static str);
 
 // What Python's hmac and hashlib derive from 32 zeros.
-static DRAWN_FROM_ZEROS: [DrawRow; 5] = [
+static DRAWN_FROM_ZEROS: [DerivationRow; 5] = [
     (
         0,
         0,
@@ -53,7 +53,7 @@ static DRAWN_FROM_ZEROS: [DrawRow; 5] = [
 ];
 
 // And from the bytes 00 to 1f.
-static DRAWN_FROM_COUNTING: [DrawRow; 2] = [
+static DRAWN_FROM_COUNTING: [DerivationRow; 2] = [
     (
         7,
         4_294_967_295,
@@ -74,7 +74,7 @@ static DRAWN_FROM_COUNTING: [DrawRow; 2] = [
 fn drawn(
     alloc: Global,
     seed: &[u8; 32],
-    row: &DrawRow,
+    row: &DerivationRow,
     room: &mut [u8],
 ) -> Result<String, AllocError>
     requires { length room.old ≤ 64 }
@@ -84,7 +84,7 @@ fn drawn(
 }
 
 // Expects these bytes for each row, whole and by 16 bytes.
-fn expect_drawn<A: Abort>(rt: &A, alloc: Global, seed: &[u8; 32], rows: &[DrawRow]) {
+fn expect_drawn<A: Abort>(rt: &A, alloc: Global, seed: &[u8; 32], rows: &[DerivationRow]) {
     for row in rows {
         expect_same(rt, drawn(alloc, seed, row, &mut [0; 64]), row.3, "64 bytes");
         let nonce = drawn(alloc, seed, row, &mut [0; 16]).expect(rt, "an answer");

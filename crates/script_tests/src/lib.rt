@@ -16,7 +16,7 @@ mod linked;
 #[cfg(test)]
 mod linked_commands;
 #[cfg(test)]
-mod linked_wanting;
+mod linked_out_of_memory;
 #[cfg(test)]
 mod meeting;
 #[cfg(test)]

@@ -17,7 +17,7 @@ pub(crate) struct Replaced {
 impl Machine for Replaced {
     type Call = Call;
 
-    type Lent = Reply;
+    type Pending = Reply;
 
     type Reply = Reply;
 
@@ -27,7 +27,7 @@ impl Machine for Replaced {
 
     ghost lawful = { λ _. Unit {0} };
 
-    ghost leads = { λ _ _. Unit {0} };
+    ghost reaches = { λ _ _. Unit {0} };
 
     fn begin(&mut self, who: u32, call: &Call) -> Reply
         requires { Fits call.now }
@@ -47,7 +47,7 @@ impl Machine for Replaced {
         lent
     }
 
-    ghost leads_lawful = { λ _ _ _. tt };
+    ghost reaches_lawful = { λ _ _ _. tt };
 }
 
 impl MountMachine for Replaced {

@@ -12,7 +12,7 @@ use Rattle.percent_encoding.specs.AsciiSet.{contains, should_percent_encode}
 use Rattle.percent_encoding.specs.Percent.{percent_encode, percent_decode, percent_encode_byte, encode_byte}
 use Rattle.percent_encoding.proofs.PercentLemmas.{IsByte, IsEscapeByte, All-percent_encode, All-percent_decode, round_trip}
 use Rattle.script_words.specs.Word.{has_whole_escapes, is_word_text, sized_word, word_bytes, may_be_target, passing, target_bytes, is_plain_character, byte_text, word_text, IsWord}
-use Rattle.script_words.specs.declared.limits.TheConstants.{MOST_WORD_BYTES}
+use Rattle.script_words.specs.declared.limits.TheConstants.{MAX_WORD_BYTES}
 use Rattle.script_words.specs.declared.word.TheConstants.{ESCAPED}
 
 -- ---- what is written
@@ -114,7 +114,7 @@ word_bytes-word_text bytes word =
     taken : (is : Bool) (decoded bytes : List ℕ) → is ≡ true → decoded ≡ bytes → IsWord bytes
         → (let o : Option (List ℕ) = if is then sized_word decoded else None in o ≡ Some bytes)
     taken is decoded bytes h e word =
-        rw (h, e, le-leb 1 (length bytes) word.nonempty, le-leb (length bytes) MOST_WORD_BYTES word.bounded) refl
+        rw (h, e, le-leb 1 (length bytes) word.nonempty, le-leb (length bytes) MAX_WORD_BYTES word.bounded) refl
 
 pub target_bytes-word_text : (bytes : List ℕ) → IsWord bytes → IsTrue (may_be_target bytes) → target_bytes (word_text bytes) ≡ Some bytes
 unfolding target_bytes
@@ -133,17 +133,17 @@ IsWord-word_bytes text bytes spelled =
     let ranged = All-percent_decode text (All-weaker (λ b. is_ascii_graphic b ≡ true) IsByte graphic_is_byte text (AllPass-from_list_all is_ascii_graphic text graphic.0)) in
     record { nonempty = parts.2; bounded = parts.3; ranged = rw (← parts.1) ranged }
   where
-    sized : (bytes found : List ℕ) (fits : Bool) → (nat_le 1 (length bytes) && nat_le (length bytes) MOST_WORD_BYTES) ≡ fits
+    sized : (bytes found : List ℕ) (fits : Bool) → (nat_le 1 (length bytes) && nat_le (length bytes) MAX_WORD_BYTES) ≡ fits
         → (let o : Option (List ℕ) = if fits then Some bytes else None in o ≡ Some found)
-        → (bytes ≡ found) × (1 ≤ length found) × (length found ≤ MOST_WORD_BYTES)
+        → (bytes ≡ found) × (1 ≤ length found) × (length found ≤ MAX_WORD_BYTES)
     sized bytes found true h e =
         let same : bytes ≡ found = cc in
         let both = and_parts _ _ h in
-        (same, rw (← same) (leb-true 1 (length bytes) both.0), rw (← same) (leb-true (length bytes) MOST_WORD_BYTES both.1))
+        (same, rw (← same) (leb-true 1 (length bytes) both.0), rw (← same) (leb-true (length bytes) MAX_WORD_BYTES both.1))
     sized bytes found false h e = absurd (cc e)
 
     taken : (is : Bool) (decoded bytes : List ℕ) → (let o : Option (List ℕ) = if is then sized_word decoded else None in o ≡ Some bytes)
-        → (is ≡ true) × (decoded ≡ bytes) × (1 ≤ length bytes) × (length bytes ≤ MOST_WORD_BYTES)
+        → (is ≡ true) × (decoded ≡ bytes) × (1 ≤ length bytes) × (length bytes ≤ MAX_WORD_BYTES)
     taken true decoded bytes e =
         let parts = sized decoded bytes _ refl e in
         (refl, parts.0, parts.1, parts.2)

@@ -9,7 +9,7 @@ use Rattle.std.proofs.lemmas.Bool.Decides.{nat_tests}
 use Rattle.std.proofs.lemmas.List.{at_drop_more, take_more, drop_all}
 use Rattle.script_words.specs.Path.{is_slash, part_of, before_parts, parts_of, few_parts, path_of, IsPath}
 use Rattle.script_words.specs.PathText.{part_text, parts_text, path_text}
-use Rattle.script_words.specs.declared.limits.TheConstants.{MOST_PARTS}
+use Rattle.script_words.specs.declared.limits.TheConstants.{MAX_PARTS}
 use Rattle.script_words.specs.declared.path.ScriptPart.{ScriptPart}
 use Rattle.script_words.proofs.PathLemmas.{path_of-path_text}
 
@@ -55,28 +55,28 @@ path_text-nonempty (part ∷ parts) some = refl
 
 -- ---- the ends of reading
 
-pub few_parts-many : (texts : List (List ℕ)) (n : ℕ) → MOST_PARTS ≤ n → n < length texts → None ≡ few_parts texts
-few_parts-many texts n many within = by_test (nat_le (length texts) MOST_PARTS) refl
+pub few_parts-many : (texts : List (List ℕ)) (n : ℕ) → MAX_PARTS ≤ n → n < length texts → None ≡ few_parts texts
+few_parts-many texts n many within = by_test (nat_le (length texts) MAX_PARTS) refl
   where
-    by_test : (few : Bool) → nat_le (length texts) MOST_PARTS ≡ few → (let o : Option (List ScriptPart) = if few then parts_of texts else None in None ≡ o)
-    by_test true few = absurd (omega (arith, leb-true (length texts) MOST_PARTS few))
+    by_test : (few : Bool) → nat_le (length texts) MAX_PARTS ≡ few → (let o : Option (List ScriptPart) = if few then parts_of texts else None in None ≡ o)
+    by_test true few = absurd (omega (arith, leb-true (length texts) MAX_PARTS few))
     by_test false few = refl
 
 pub few_parts-refused : (done : List ScriptPart) (texts : List (List ℕ)) (n : ℕ) (text : List ℕ)
     → onto done (parts_of (drop n texts)) ≡ parts_of texts → n < length texts → text ≡ get_or texts n text → None ≡ part_of text
     → None ≡ few_parts texts
-few_parts-refused done texts n text told within at read = by_test (nat_le (length texts) MOST_PARTS)
+few_parts-refused done texts n text told within at read = by_test (nat_le (length texts) MAX_PARTS)
   where
     by_test : (few : Bool) → (let o : Option (List ScriptPart) = if few then parts_of texts else None in None ≡ o)
     by_test true = sym (onto-refused done texts n text within at read) ∙ told
     by_test false = refl
 
 pub few_parts-all : (done : List ScriptPart) (texts : List (List ℕ)) (n : ℕ)
-    → onto done (parts_of (drop n texts)) ≡ parts_of texts → n ≡ length texts → n ≤ MOST_PARTS → Some done ≡ few_parts texts
+    → onto done (parts_of (drop n texts)) ≡ parts_of texts → n ≡ length texts → n ≤ MAX_PARTS → Some done ≡ few_parts texts
 few_parts-all done texts n told whole few =
     let none : drop n texts ≡ [] = drop_all n texts (omega arith) in
     let all : Some done ≡ parts_of texts = ap Some (sym (append-nil done)) ∙ ap (λ more. onto done (parts_of more)) (sym none) ∙ told in
-    rw (le-leb (length texts) MOST_PARTS (omega arith)) all
+    rw (le-leb (length texts) MAX_PARTS (omega arith)) all
 
 -- a text that doesn't begin with `/`
 pub path_of-empty : (text : List ℕ) → (length text == 0) ≡ true → None ≡ path_of text

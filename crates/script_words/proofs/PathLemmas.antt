@@ -18,7 +18,7 @@ use Rattle.text_words.proofs.NumberLemmas.{number_below-decimal_of, IsDecimal-de
 use Rattle.script_words.specs.Word.{IsWord, word_bytes, word_text, passing, is_plain_character}
 use Rattle.script_words.specs.Path.{is_slash, may_be_part, star_number, part_of, before_parts, parts_of, few_parts, path_of, IsPart, IsPath}
 use Rattle.script_words.specs.PathText.{part_text, parts_text, path_text}
-use Rattle.script_words.specs.declared.limits.TheConstants.{MOST_PARTS}
+use Rattle.script_words.specs.declared.limits.TheConstants.{MAX_PARTS}
 use Rattle.script_words.specs.declared.path.ScriptPart.{ScriptPart}
 use Rattle.script_words.specs.declared.path.ScriptPart.TheVariants.{Given, Star}
 use Rattle.script_words.specs.declared.word.TheConstants.{ESCAPED}
@@ -84,7 +84,7 @@ parts_of-texts (part ∷ parts) each =
     rw (part_of-part_text part (All-head IsPart part parts each), parts_of-texts parts (All-tail IsPart part parts each)) refl
 
 few_parts-texts : (path : List ScriptPart) → IsPath path → few_parts (map part_text path) ≡ Some path
-few_parts-texts path is = rw (length-map path part_text, le-leb (length path) MOST_PARTS is.bounded) (parts_of-texts path is.each)
+few_parts-texts path is = rw (length-map path part_text, le-leb (length path) MAX_PARTS is.bounded) (parts_of-texts path is.each)
 
 part_text-nonempty : (part : ScriptPart) → IsPart part → 0 < length (part_text part)
 part_text-nonempty (Given bytes) is = rw (← percent_encode-ESCAPED bytes) (percent_encode_nonempty ESCAPED bytes (omega (arith, (is.0).nonempty)))
@@ -169,13 +169,13 @@ each_is_part (text ∷ texts) path h =
     subst (λ (xs : List ScriptPart). (length xs ≡ suc (length texts)) × All IsPart xs) (sym facts.2) all
 
 pub IsPath-few_parts : (texts : List (List ℕ)) (path : List ScriptPart) → few_parts texts ≡ Some path → IsPath path
-IsPath-few_parts texts path h = by_count (nat_le (length texts) MOST_PARTS) refl h
+IsPath-few_parts texts path h = by_count (nat_le (length texts) MAX_PARTS) refl h
   where
-    by_count : (few : Bool) → nat_le (length texts) MOST_PARTS ≡ few
+    by_count : (few : Bool) → nat_le (length texts) MAX_PARTS ≡ few
         → (let o : Option (List ScriptPart) = if few then parts_of texts else None in o ≡ Some path) → IsPath path
     by_count true few h =
         let each = each_is_part texts path h in
-        record { bounded = omega (arith, each.0, leb-true (length texts) MOST_PARTS few); each = each.1 }
+        record { bounded = omega (arith, each.0, leb-true (length texts) MAX_PARTS few); each = each.1 }
     by_count false few h = absurd (cc h)
 
 pub IsPath-nil : IsPath []

@@ -24,7 +24,7 @@ use Rattle.policy_ctx.specs.declared.policy.Pad.{Pad}
 use Rattle.policy_ctx.specs.declared.policy.Pad.TheVariants.{P4, P8, P16, P32}
 use Rattle.policy_ctx.specs.declared.policy.Unit.{Unit as DataUnit}
 use Rattle.policy_ctx.specs.declared.policy.Unit.TheVariants.{Block, U512, U1024, U2048, U4096}
-use Rattle.fsc_keys.specs.declared.raw_key.TheConstants.{LEAST_RAW_KEY_BYTES, MOST_RAW_KEY_BYTES}
+use Rattle.fsc_keys.specs.declared.raw_key.TheConstants.{MIN_RAW_KEY_BYTES, MAX_RAW_KEY_BYTES}
 use Rattle.script_words.specs.Keys.{hex_of_size, hex_or_none, key_ref_of, key_ref_text, hex_or_none_text, IsKey}
 use Rattle.script_words.specs.Numbers.{number_of, at_most, number_up_to, pad_of, unit_of, pad_text, unit_text}
 use Rattle.script_words.specs.Records.{record_of, record_name, IsRecord}
@@ -100,7 +100,7 @@ id_from o = option_map (λ bytes. record { 0 = bytes }) o
 pub key_ref_of-text : (key : KeyRef) → IsKey key → key_ref_of (key_ref_text key) ≡ Some key
 key_ref_of-text (Id id) h = ap (λ o. option_map Id (id_from o)) (hex_bytes_of_length-encode_lower 16 id.0 h.0 h.1)
 key_ref_of-text (Raw raw) h =
-    ap (option_map Raw) (hex_of_size-encode_lower LEAST_RAW_KEY_BYTES MOST_RAW_KEY_BYTES raw h.0 h.1.0 h.1.1)
+    ap (option_map Raw) (hex_of_size-encode_lower MIN_RAW_KEY_BYTES MAX_RAW_KEY_BYTES raw h.0 h.1.0 h.1.1)
 
 -- ---- numbers
 

@@ -17,7 +17,7 @@ use Rattle.argon_kdf.specs.CostLimits.{checked_costs}
 use Rattle.argon_kdf.specs.declared.costs.Costs.{Costs}
 use Rattle.argon_kdf.specs.declared.costs.CostFault.{CostFault}
 use Rattle.short_bytes.specs.Label.{IsLabel, is_label, label_of}
-use Rattle.fsc_keys.specs.declared.raw_key.TheConstants.{LEAST_RAW_KEY_BYTES, MOST_RAW_KEY_BYTES}
+use Rattle.fsc_keys.specs.declared.raw_key.TheConstants.{MIN_RAW_KEY_BYTES, MAX_RAW_KEY_BYTES}
 use Rattle.script_words.specs.Keys.{hex_of_size, hex_or_none, id_of, raw_key_of, key_ref_of, IsKey, AreFewBytes}
 use Rattle.script_words.specs.Numbers.{number_of, at_most, number_up_to, IsNumber}
 use Rattle.script_words.specs.Records.{record_of, IsRecord}
@@ -125,7 +125,7 @@ key_ref_of-key word =
     chosen_some IsKey (starts_with nat_eq word (codes "id:")) _ _
     (mapped_some IsKey Id (id_of (drop 3 word)) (mapped_some _ _ (hex_bytes_of_length 16 (drop 3 word)) (hex_bytes_of_length-bytes 16 (drop 3 word))))
     (chosen_some IsKey (starts_with nat_eq word (codes "raw:")) _ _
-    (mapped_some IsKey Raw (raw_key_of (drop 4 word)) (hex_of_size-bytes LEAST_RAW_KEY_BYTES MOST_RAW_KEY_BYTES (drop 4 word))) tt)
+    (mapped_some IsKey Raw (raw_key_of (drop 4 word)) (hex_of_size-bytes MIN_RAW_KEY_BYTES MAX_RAW_KEY_BYTES (drop 4 word))) tt)
 
 pub label_of-label : (word : List ℕ) → IfSome (label_of word) IsLabel
 label_of-label word = by_test (is_label word) refl

@@ -7,7 +7,7 @@ use Rattle.std.specs.Str.{bytes_eq}
 use Rattle.hex.specs.Hex.{IsBytes, encode_lower}
 use Rattle.text_words.specs.Digits.{hex_bytes, hex_bytes_of_length}
 use Rattle.policy_ctx.specs.declared.policy.KeyId.{KeyId}
-use Rattle.fsc_keys.specs.declared.raw_key.TheConstants.{LEAST_RAW_KEY_BYTES, MOST_RAW_KEY_BYTES}
+use Rattle.fsc_keys.specs.declared.raw_key.TheConstants.{MIN_RAW_KEY_BYTES, MAX_RAW_KEY_BYTES}
 use Rattle.script_words.specs.declared.key_words.KeyRef.{KeyRef}
 use Rattle.script_words.specs.declared.key_words.KeyRef.TheVariants.{Id, Raw}
 
@@ -26,7 +26,7 @@ id_of digits = option_map (λ bytes. record { 0 = bytes }) (hex_bytes_of_length 
 
 -- the bytes of a raw key, in digits
 abbrev pub raw_key_of : List ℕ → Option (List ℕ)
-raw_key_of digits = hex_of_size LEAST_RAW_KEY_BYTES MOST_RAW_KEY_BYTES digits
+raw_key_of digits = hex_of_size MIN_RAW_KEY_BYTES MAX_RAW_KEY_BYTES digits
 
 -- a key: `id:` and its identifier in 32 digits, or `raw:` and its 32 to 64 bytes in digits
 abbrev pub key_ref_of : List ℕ → Option KeyRef
@@ -47,7 +47,7 @@ hex_or_none_text bytes = if nat_le 1 (length bytes) then encode_lower bytes else
 -- an identifier has 16 bytes, and a raw key 32 to 64
 abbrev pub IsKey : KeyRef → Type 0
 IsKey (Id id) = (length id.0 ≡ 16) × IsBytes id.0
-IsKey (Raw raw) = (LEAST_RAW_KEY_BYTES ≤ length raw) × ((length raw ≤ MOST_RAW_KEY_BYTES) × IsBytes raw)
+IsKey (Raw raw) = (MIN_RAW_KEY_BYTES ≤ length raw) × ((length raw ≤ MAX_RAW_KEY_BYTES) × IsBytes raw)
 
 -- at most `most` bytes
 abbrev pub AreFewBytes : List ℕ → ℕ → Type 0

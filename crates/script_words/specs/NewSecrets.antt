@@ -12,14 +12,14 @@ use Rattle.script_words.specs.CostWords.{number_and_rest, costs_of, costs_text}
 use Rattle.script_words.specs.Secrets.{raw_secret_of, IsRawSecret}
 
 -- a passphrase, after costs
-abbrev pub behind_costs : Costs → List ℕ → Option NewSecret
-behind_costs costs text = option_map (λ passphrase. new.Pass costs passphrase) (word_bytes text)
+abbrev pub after_costs : Costs → List ℕ → Option NewSecret
+after_costs costs text = option_map (λ passphrase. new.Pass costs passphrase) (word_bytes text)
 
 -- passes, KiB and lanes in range, each before a `:`, and a passphrase
 abbrev pub stretched_of : List ℕ → Option NewSecret
 stretched_of text =
     option_and_then (λ passes. option_and_then (λ kib. option_and_then (λ lanes.
-    option_and_then (λ costs. behind_costs costs lanes.1) (costs_of passes.0 kib.0 lanes.0))
+    option_and_then (λ costs. after_costs costs lanes.1) (costs_of passes.0 kib.0 lanes.0))
     (number_and_rest kib.1)) (number_and_rest passes.1)) (number_and_rest text)
 
 -- a new secret: `raw:` and its digits, or `pass:PASSES:KIB:LANES:` and a passphrase

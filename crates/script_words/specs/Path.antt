@@ -6,7 +6,7 @@ use Rattle.std.specs.Option.{option_map, option_or}
 use Rattle.text_words.specs.Numbers.{number_below}
 pub use Rattle.text_words.specs.Parts.{is_dots, is_slash, is_slash_or_nul, may_be_part}
 use Rattle.script_words.specs.Word.{IsWord, word_bytes, passing}
-use Rattle.script_words.specs.declared.limits.TheConstants.{MOST_PARTS}
+use Rattle.script_words.specs.declared.limits.TheConstants.{MAX_PARTS}
 use Rattle.script_words.specs.declared.path.ScriptPart.{ScriptPart}
 use Rattle.script_words.specs.declared.path.ScriptPart.TheVariants.{Given, Star}
 
@@ -33,7 +33,7 @@ parts_of (text ∷ texts) = before_parts (part_of text) (parts_of texts)
 
 -- the same, if there are at most 32 texts
 abbrev pub few_parts : List (List ℕ) → Option (List ScriptPart)
-few_parts texts = if nat_le (length texts) MOST_PARTS then parts_of texts else None
+few_parts texts = if nat_le (length texts) MAX_PARTS then parts_of texts else None
 
 -- the path that a text spells: `/` is the root; else the parts are the texts between the slashes, after
 -- the first
@@ -51,5 +51,5 @@ IsPart (Star number) = number < 2 ^ 32
 
 -- the paths that are possible: at most 32 parts
 pub record IsPath (parts : List ScriptPart) : Type 0 where
-  pub bounded : length parts ≤ MOST_PARTS
+  pub bounded : length parts ≤ MAX_PARTS
   pub each : All IsPart parts

@@ -5,7 +5,7 @@ use Rattle.std.specs.Prelude.{List, [], ◌∷◌, length, Option, Some, None, i
 use Rattle.std.specs.List.{All, list_all, list_any, flat_map}
 use Rattle.std.specs.Char.{is_ascii_graphic, is_ascii_hexdigit, is_ascii_alphanumeric}
 use Rattle.percent_encoding.specs.Percent.{percent_decode, percent_encode_byte}
-use Rattle.script_words.specs.declared.limits.TheConstants.{MOST_WORD_BYTES}
+use Rattle.script_words.specs.declared.limits.TheConstants.{MAX_WORD_BYTES}
 
 -- whether the text begins with two hexadecimal digits, of either case
 abbrev pub begins_with_two_digits : List ℕ → Bool
@@ -25,7 +25,7 @@ is_word_text text = list_all is_ascii_graphic text && has_whole_escapes text
 -- the bytes, if they are 1 to 1,000
 abbrev pub sized_word : List ℕ → Option (List ℕ)
 sized_word bytes =
-    if nat_le 1 (length bytes) && nat_le (length bytes) MOST_WORD_BYTES then Some bytes else None
+    if nat_le 1 (length bytes) && nat_le (length bytes) MAX_WORD_BYTES then Some bytes else None
 
 -- the bytes that a text spells as a word: each `%` and its digits are one byte, every other character
 -- is itself
@@ -60,5 +60,5 @@ word_text bytes = flat_map byte_text bytes
 -- what a word may spell: 1 to 1,000 bytes
 pub record IsWord (bytes : List ℕ) : Type 0 where
   pub nonempty : 1 ≤ length bytes
-  pub bounded : length bytes ≤ MOST_WORD_BYTES
+  pub bounded : length bytes ≤ MAX_WORD_BYTES
   pub ranged : All (λ b. b < 256) bytes

@@ -3,7 +3,7 @@
 ghost use Rattle.std.specs.Prelude.{◌≡◌, ◌*◌, ◌<◌, ◌^◌, IfOk};
 ghost use Rattle.script_words.specs.Keys as spec;
 
-use fsc_keys::{KeyId, LEAST_RAW_KEY_BYTES, MOST_RAW_KEY_BYTES, RawKey};
+use fsc_keys::{KeyId, MAX_RAW_KEY_BYTES, MIN_RAW_KEY_BYTES, RawKey};
 use item_list::Bytes;
 use std::alloc::{AllocError, Global};
 use text_words::{hex_bytes, hex_bytes_into};
@@ -74,10 +74,10 @@ fn read_id(digits: &[u8]) -> Option<KeyId>
 fn read_raw_key(digits: &[u8]) -> Option<RawKey>
     ensures { result ≡ spec.raw_key_of digits.now }
 {
-    if digits.len() < 2 * LEAST_RAW_KEY_BYTES || digits.len() > 2 * MOST_RAW_KEY_BYTES {
+    if digits.len() < 2 * MIN_RAW_KEY_BYTES || digits.len() > 2 * MAX_RAW_KEY_BYTES {
         return None;
     }
-    let mut bytes = [0; MOST_RAW_KEY_BYTES];
+    let mut bytes = [0; MAX_RAW_KEY_BYTES];
     let bytes = &mut bytes[..digits.len() / 2];
     if !hex_bytes_into(digits, bytes) {
         return None;

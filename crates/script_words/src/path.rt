@@ -5,7 +5,7 @@ ghost use Rattle.std.specs.List.{slice_split};
 ghost use Rattle.script_words.specs.Path.{IsPath, part_of, path_of, is_slash, few_parts, star_number};
 ghost use Rattle.script_words.specs.PathText.{path_text, part_text};
 
-use crate::limits::MOST_PARTS;
+use crate::limits::MAX_PARTS;
 use crate::word::{append_word, read_word};
 use item_list::{Bytes, Items};
 use std::alloc::{AllocError, Global};
@@ -81,7 +81,7 @@ fn read_parts(alloc: Global, text: &[u8]) -> Result<Option<Items<ScriptPart>>, A
 {
     let mut parts = Items::new(alloc);
     'pieces: for piece in text.split(|b| *b == b'/') {
-        if parts.len() >= MOST_PARTS {
+        if parts.len() >= MAX_PARTS {
             return Ok(None);
         }
         match read_part(alloc, piece)? {

@@ -70,7 +70,7 @@ fn read_behind_costs(
     costs: AllowedCosts,
     text: &[u8],
 ) -> Result<Option<NewSecret>, AllocError>
-    ensures { IfOk result (λ secret. secret ≡ new_secrets.behind_costs costs text.now) }
+    ensures { IfOk result (λ secret. secret ≡ new_secrets.after_costs costs text.now) }
 {
     let passphrase = read_word(alloc, text)?;
     Ok(passphrase.map(|passphrase| NewSecret::Pass { costs, passphrase }))

@@ -5,10 +5,10 @@ ghost use Rattle.std.specs.List.{list_all};
 ghost use Rattle.std.specs.Char.{is_ascii_graphic};
 ghost use Rattle.script_words.specs.Word as spec;
 ghost use Rattle.script_words.specs.Word.{word_bytes, target_bytes, is_word_text, word_text};
-ghost use Rattle.script_words.specs.declared.limits.TheConstants.{MOST_WORD_BYTES};
+ghost use Rattle.script_words.specs.declared.limits.TheConstants.{MAX_WORD_BYTES};
 ghost use Rattle.percent_encoding.specs.Percent.{percent_decode};
 
-use crate::limits::MOST_WORD_BYTES;
+use crate::limits::MAX_WORD_BYTES;
 use item_list::Bytes;
 use percent_encoding::{AsciiSet, NON_ALPHANUMERIC, ascii_set, percent_decode, percent_encode};
 use std::alloc::{AllocError, Global};
@@ -34,7 +34,7 @@ pub fn read_word(alloc: Global, text: &[u8]) -> Result<Option<Bytes>, AllocError
     }
     let mut bytes = Vec::new(alloc);
     percent_decode(text).append_to(&mut bytes)?;
-    if bytes.is_empty() || bytes.len() > MOST_WORD_BYTES {
+    if bytes.is_empty() || bytes.len() > MAX_WORD_BYTES {
         return Ok(None);
     }
     Ok(Some(Bytes::from_vec(bytes)))
@@ -67,7 +67,7 @@ fn may_be_target(bytes: &[u8]) -> bool
 /// Writes bytes as a word, in one to three characters each.
 pub fn write_word(alloc: Global, bytes: &[u8]) -> Result<String, AllocError>
     ensures value { IfOk result (λ text. string_bytes text ≡ word_text bytes.now) }
-    ensures reads_back { 1 ≤ length bytes.now → length bytes.now ≤ MOST_WORD_BYTES
+    ensures reads_back { 1 ≤ length bytes.now → length bytes.now ≤ MAX_WORD_BYTES
         → IfOk result (λ text. word_bytes (string_bytes text) ≡ Some bytes.now) }
 {
     let mut text = String::new(alloc);

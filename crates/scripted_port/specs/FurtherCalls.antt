@@ -13,12 +13,12 @@ FurtherFits other = ⊤
 
 -- what is stored after a call that no reply is listed for: the first of them, or that there was no memory
 -- to store it
-abbrev pub kept_behind : Further → Call → Bool → Further
-kept_behind Unasked call false = Asked call
-kept_behind Unasked call true = Lost
-kept_behind further call lost = further
+abbrev pub further_after_unlisted : Further → Call → Bool → Further
+further_after_unlisted Unasked call false = Asked call
+further_after_unlisted Unasked call true = Lost
+further_after_unlisted further call lost = further
 
 -- after a call, if these replies are left before it
-abbrev pub further_behind : List Reply → Further → Call → Bool → Further
-further_behind [] further call lost = kept_behind further call lost
-further_behind (reply ∷ more) further call lost = further
+abbrev pub further_after : List Reply → Further → Call → Bool → Further
+further_after [] further call lost = further_after_unlisted further call lost
+further_after (reply ∷ more) further call lost = further

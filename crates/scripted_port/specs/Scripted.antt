@@ -8,7 +8,7 @@ use Rattle.mount_model.specs.declared.reply.Refusal.TheVariants.{NoMemory}
 use Rattle.mount_model.specs.History.{MountEntry}
 use Rattle.mount_model.specs.Port.{PlacedCalls}
 use Rattle.scripted_port.specs.declared.port.Further.{Further}
-use Rattle.scripted_port.specs.FurtherCalls.{further_behind}
+use Rattle.scripted_port.specs.FurtherCalls.{further_after}
 
 -- the caller, its calls that are left, the place of the next one, the replies that are left, the next one
 -- first, and the first call after them
@@ -19,8 +19,8 @@ pub record ScriptedView : Type 0 where
   pub replies : List Reply
   pub further : Further
 
-abbrev pub scripted : ℕ → ℕ → ℕ → List Reply → Further → ScriptedView
-scripted caller left place replies further =
+abbrev pub scripted_view : ℕ → ℕ → ℕ → List Reply → Further → ScriptedView
+scripted_view caller left place replies further =
     record { caller = caller; left = left; place = place; replies = replies; further = further }
 
 -- the next reply
@@ -31,8 +31,8 @@ next_reply (reply ∷ more) = reply
 -- the port after a call
 abbrev pub after_call : ScriptedView → Call → Bool → ScriptedView
 after_call port call lost =
-    scripted port.caller (port.left - 1) (port.place + 1) (drop 1 port.replies)
-    (further_behind port.replies port.further call lost)
+    scripted_view port.caller (port.left - 1) (port.place + 1) (drop 1 port.replies)
+    (further_after port.replies port.further call lost)
 
 -- the port's next call has this entry and place
 pub record IsAnswered (port : ScriptedView) (placed : ℕ × MountEntry) : Type 0 where
@@ -41,7 +41,7 @@ pub record IsAnswered (port : ScriptedView) (placed : ℕ × MountEntry) : Type 
   pub reply : placed.1.reply ≡ next_reply port.replies
 
 -- the port went from `old` to `new` by these calls
-abbrev pub ScriptedCame : ScriptedView → PlacedCalls → ScriptedView → Type 0
-ScriptedCame old [] new = new ≡ old
-ScriptedCame old (x ∷ xs) new =
-    (lost : Bool) × IsAnswered old x × ScriptedCame (after_call old x.1.call lost) xs new
+abbrev pub ScriptedAfterCalls : ScriptedView → PlacedCalls → ScriptedView → Type 0
+ScriptedAfterCalls old [] new = new ≡ old
+ScriptedAfterCalls old (x ∷ xs) new =
+    (lost : Bool) × IsAnswered old x × ScriptedAfterCalls (after_call old x.1.call lost) xs new

@@ -2,9 +2,9 @@
 
 ghost use Rattle.std.specs.Prelude.{◌≡◌, ◌+◌, ◌<◌, ◌^◌, Bool, reverse};
 ghost use Rattle.mount_model.specs.Fits.{Fits};
-ghost use Rattle.scripted_port.specs.Scripted.{ScriptedCame, scripted};
-ghost use Rattle.scripted_port.specs.FurtherCalls.{FurtherFits, kept_behind};
-ghost use Rattle.scripted_port.specs.PortLaws.{ScriptedCame-none, ScriptedCame-on, ScriptedCame-caller};
+ghost use Rattle.scripted_port.specs.Scripted.{ScriptedAfterCalls, scripted_view};
+ghost use Rattle.scripted_port.specs.FurtherCalls.{FurtherFits, further_after_unlisted};
+ghost use Rattle.scripted_port.specs.PortLaws.{ScriptedAfterCalls-none, ScriptedAfterCalls-on, ScriptedAfterCalls-caller};
 ghost use Rattle.scripted_port.specs.declared.port.Further.TheVariants.{Unasked};
 
 use mount_model::{Call, MountPort, Placed, Refusal, Reply};
@@ -35,12 +35,12 @@ pub struct ScriptedPort {
 
 impl Model for ScriptedPort {
     ghost use Rattle.std.specs.Prelude.{◌+◌, ◌<◌, ◌^◌, reverse};
-    ghost use Rattle.scripted_port.specs.Scripted.{ScriptedView, scripted};
+    ghost use Rattle.scripted_port.specs.Scripted.{ScriptedView, scripted_view};
     ghost use Rattle.scripted_port.specs.FurtherCalls.{FurtherFits};
 
     ghost Value = { ScriptedView };
 
-    ghost view = { λ port. scripted port.caller port.left port.place (reverse port.replies.items)
+    ghost view = { λ port. scripted_view port.caller port.left port.place (reverse port.replies.items)
         port.further };
 
     ghost invariant = { λ port. (port.place + port.left < 2 ^ 64) × FurtherFits port.further };
@@ -50,7 +50,7 @@ impl ScriptedPort {
     /// Returns the port of the caller, with `left` calls and these replies, the last of the list first.
     /// Places count from 0.
     pub fn new(alloc: Global, caller: u32, left: u64, replies: Vec<Reply>) -> ScriptedPort
-        ensures { result ≡ scripted caller left 0 (reverse replies.items) Unasked }
+        ensures { result ≡ scripted_view caller left 0 (reverse replies.items) Unasked }
     {
         ScriptedPort {
             alloc,
@@ -79,7 +79,7 @@ impl MountPort for ScriptedPort {
 
     ghost floor = { λ port. port.place };
 
-    ghost came = { ScriptedCame };
+    ghost after_calls = { ScriptedAfterCalls };
 
     fn caller(&self) -> u32 {
         self.caller
@@ -105,18 +105,18 @@ impl MountPort for ScriptedPort {
         Placed { place, reply }
     }
 
-    ghost by_none = { ScriptedCame-none };
+    ghost by_none = { ScriptedAfterCalls-none };
 
-    ghost by_more = { ScriptedCame-on };
+    ghost by_more = { ScriptedAfterCalls-on };
 
-    ghost one_caller = { ScriptedCame-caller };
+    ghost one_caller = { ScriptedAfterCalls-caller };
 }
 
 // Stores the call if none was asked before it.
 fn kept(alloc: Global, before: Further, call: &Call) -> Further
     requires before { FurtherFits before }
     requires fits { Fits call.now }
-    ensures kept { (lost : Bool) × (result ≡ kept_behind before call.now lost) }
+    ensures kept { (lost : Bool) × (result ≡ further_after_unlisted before call.now lost) }
     ensures fits { FurtherFits result }
 {
     match before {

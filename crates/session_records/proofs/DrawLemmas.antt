@@ -8,9 +8,9 @@ use Rattle.byte_words.proofs.AreBytesLemmas.{AreBytes-take}
 use Rattle.hmac_kdf.specs.Hmac.{hash_sha512, hmac_with}
 use Rattle.hmac_kdf.specs.Hkdf.{expanded, extracted, hkdf_sha512, hkdf_with, okm_block, okm_blocks}
 use Rattle.hmac_kdf.proofs.BytesLemmas.{sha512_derives}
-use Rattle.session_records.specs.Draws.{caller_byte, draw_info, drawn_bytes, nonce_drawn}
-use Rattle.session_records.specs.declared.draws.Purpose.TheVariants.{NonceOrKey}
-use Rattle.session_records.specs.declared.draws.TheConstants.{NONCE_BYTES}
+use Rattle.session_records.specs.Derivations.{caller_byte, hkdf_info, drawn_bytes, derived_nonce}
+use Rattle.session_records.specs.declared.derivations.Purpose.TheVariants.{NonceOrKey}
+use Rattle.session_records.specs.declared.derivations.TheConstants.{NONCE_BYTES}
 
 -- one block of SHA-512
 block_long : (prk info : List ℕ) → length (okm_blocks hash_sha512 prk info 1) ≡ 64
@@ -22,10 +22,10 @@ unfolding hkdf_with expanded
 drawn_long seed info =
     length-take 64 (okm_blocks hash_sha512 (extracted hash_sha512 [] seed) info 1) ∙ ap (min 64) (block_long (extracted hash_sha512 [] seed) info)
 
-pub nonce_is_bytes : (seed : List ℕ) (caller number : ℕ) → AreBytesOfLength 16 (nonce_drawn seed caller number)
-unfolding nonce_drawn drawn_bytes
+pub nonce_is_bytes : (seed : List ℕ) (caller number : ℕ) → AreBytesOfLength 16 (derived_nonce seed caller number)
+unfolding derived_nonce drawn_bytes
 nonce_is_bytes seed caller number =
-    let info = draw_info (caller_byte caller) number NonceOrKey in (
+    let info = hkdf_info (caller_byte caller) number NonceOrKey in (
       length-take NONCE_BYTES (hkdf_sha512 [] seed info 64) ∙ ap (min 16) (drawn_long seed info),
       AreBytes-take NONCE_BYTES (hkdf_sha512 [] seed info 64) (sha512_derives.derived [] seed info 64),
     )

@@ -30,44 +30,44 @@ use Rattle.script_words.specs.declared.secrets.NewSecret.{NewSecret}
 use Rattle.script_words.specs.declared.secrets.Secret.{Secret}
 use Rattle.reply_text.specs.declared.outcome.Outcome.{Outcome}
 use Rattle.reply_text.specs.declared.outcome.Outcome.TheVariants.{BadRecord}
-use Rattle.session_records.specs.declared.loaded.LoadedProtector.{LoadedProtector}
-use Rattle.session_records.specs.declared.loaded.LoadedPolicy.{LoadedPolicy}
-use Rattle.session_records.specs.declared.opened.OpenedPolicy.{OpenedPolicy}
-use Rattle.session_records.specs.declared.opened.OpenedProtector.{OpenedProtector}
+use Rattle.session_records.specs.declared.loading.LoadedProtector.{LoadedProtector}
+use Rattle.session_records.specs.declared.loading.LoadedPolicy.{LoadedPolicy}
+use Rattle.session_records.specs.declared.opening.OpenedPolicy.{OpenedPolicy}
+use Rattle.session_records.specs.declared.opening.OpenedProtector.{OpenedProtector}
 use Rattle.session_records.specs.MadeRecords.{MadePoliciesOpen, MadeProtectorsOpen, MadeWrapsOpen, OpenedPoliciesAreNamed, secret_again, opened_protector}
 use Rattle.session_records.specs.ChangedRecords.{ChangedProtectorsOpen}
 use Rattle.session_records.specs.NewPolicies.{made_policy, made_wrap}
 use Rattle.session_records.specs.NewProtectors.{made_protector, changed_protector}
 use Rattle.session_records.specs.Records.{protector_with_key, protector_under, protector_by, policy_with_key, policy_by}
-use Rattle.session_records.specs.RecordKeys.{protector_key, protector_key_found, policy_key, policy_key_found, key_in_wrap, wrapping_key}
-use Rattle.session_records.specs.LoadedRecords.{policy_loaded, policy_named, protector_loaded, protector_named}
+use Rattle.session_records.specs.RecordKeys.{protector_key, checked_protector_key, policy_key, checked_policy_key, key_in_wrap, wrapping_key}
+use Rattle.session_records.specs.LoadedRecords.{loaded_policy, checked_policy, loaded_protector, checked_protector}
 
 same_bytes : (bytes : List ℕ) → bytes_eq bytes bytes ≡ true
 same_bytes bytes = (bytes_eq-Decides bytes bytes).1 refl
 
 -- a key that was found has the descriptor of its record
 found : (loaded : LoadedProtector) (key : List ℕ) (opened : Option (List ℕ)) → opened ≡ Some key
-    → protector_with_key loaded (protector_key_found (descriptor_of key) opened) ≡ Ok (record { loaded = loaded; key = key })
+    → protector_with_key loaded (checked_protector_key (descriptor_of key) opened) ≡ Ok (record { loaded = loaded; key = key })
 found loaded key opened is =
-    ap (λ (o : Option (List ℕ)). protector_with_key loaded (protector_key_found (descriptor_of key) o)) is
+    ap (λ (o : Option (List ℕ)). protector_with_key loaded (checked_protector_key (descriptor_of key) o)) is
     ∙ ap (λ b. protector_with_key loaded (if b then Ok key else Err BadRecord)) (same_bytes (descriptor_of key))
 
 -- ---- the record that is loaded from a text that was stored
 
 named_again : (version : ℕ) (label : List ℕ) (p : Protector) → p.name ≡ label
-    → protector_named label version (Ok p) ≡ Ok (record { version = version; protector = p })
+    → checked_protector label version (Ok p) ≡ Ok (record { version = version; protector = p })
 named_again version label p named =
     ap (λ b. if b then Ok (record { version = version; protector = p }) else Err BadRecord) ((bytes_eq-Decides p.name label).1 named)
 
 loaded_again : (version : ℕ) (label : List ℕ) (p : Protector) → IsProtector p → p.name ≡ label
-    → protector_loaded label (Held version (protector_text p)) ≡ Ok (record { version = version; protector = p })
+    → loaded_protector label (Held version (protector_text p)) ≡ Ok (record { version = version; protector = p })
 loaded_again version label p spelled named =
-    ap (protector_named label version) (protector_again p spelled) ∙ named_again version label p named
+    ap (checked_protector label version) (protector_again p spelled) ∙ named_again version label p named
 
 policy_again_named : (version : ℕ) (label : List ℕ) (p : PolicyFile) → IsPolicyFile p → p.name ≡ label
-    → policy_loaded label (Held version (policy_text p)) ≡ Ok (record { version = version; policy = p })
+    → loaded_policy label (Held version (policy_text p)) ≡ Ok (record { version = version; policy = p })
 policy_again_named version label p spelled named =
-    ap (policy_named label version) (policy_again p spelled)
+    ap (checked_policy label version) (policy_again p spelled)
     ∙ ap (λ b. if b then Ok (record { version = version; policy = p }) else Err BadRecord) ((bytes_eq-Decides p.name label).1 named)
 
 -- ---- a new protector
@@ -87,16 +87,16 @@ protector_opens opens version label key secret iv salt spelled =
 
 pub wrap_opens : OpensAgain → MadeWrapsOpen
 wrap_opens opens protector key iv policy_key =
-    ap (λ (o : Option (List ℕ)). policy_key_found (key_id_of policy_key) o) (opens key iv policy_key)
+    ap (λ (o : Option (List ℕ)). checked_policy_key (key_id_of policy_key) o) (opens key iv policy_key)
     ∙ ap (λ b. if b then Ok policy_key else Err BadRecord) (same_bytes (key_id_of policy_key).0)
 
 -- ---- a protector that got another secret
 
 changed : (loaded : LoadedProtector) (wrapping iv key descriptor : List ℕ) → OpensAgain → descriptor_of key ≡ descriptor
-    → protector_with_key loaded (protector_key_found descriptor (opened_secret wrapping iv (wrapped_secret wrapping iv key).0 (wrapped_secret wrapping iv key).1))
+    → protector_with_key loaded (checked_protector_key descriptor (opened_secret wrapping iv (wrapped_secret wrapping iv key).0 (wrapped_secret wrapping iv key).1))
     ≡ Ok (record { loaded = loaded; key = key })
 changed loaded wrapping iv key descriptor opens same =
-    ap (λ (d : List ℕ). protector_with_key loaded (protector_key_found d (opened_secret wrapping iv (wrapped_secret wrapping iv key).0 (wrapped_secret wrapping iv key).1))) (sym same)
+    ap (λ (d : List ℕ). protector_with_key loaded (checked_protector_key d (opened_secret wrapping iv (wrapped_secret wrapping iv key).0 (wrapped_secret wrapping iv key).1))) (sym same)
     ∙ found loaded key _ (opens wrapping iv key)
 
 changed_again : OpensAgain → (version : ℕ) (old : Protector) (key : List ℕ) (secret : NewSecret) (iv salt : List ℕ)
@@ -126,7 +126,7 @@ key_compared loaded key opened true same label named is =
     })
 
 key_found : (loaded : LoadedProtector) (opened : OpenedProtector) (label : List ℕ) → loaded.protector.name ≡ label
-    → (got : Option (List ℕ)) → protector_with_key loaded (protector_key_found loaded.protector.descriptor got) ≡ Ok opened → IsOpenedOf label opened
+    → (got : Option (List ℕ)) → protector_with_key loaded (checked_protector_key loaded.protector.descriptor got) ≡ Ok opened → IsOpenedOf label opened
 key_found loaded opened label named None is = absurd (cc is)
 key_found loaded opened label named (Some key) is =
     key_compared loaded key opened (bytes_eq (descriptor_of key) loaded.protector.descriptor) refl label named is
@@ -144,12 +144,12 @@ label_compared label secret version p opened true same is =
     under_key (record { version = version; protector = p }) opened label ((bytes_eq-Decides p.name label).0 same) (wrapping_key secret p.kind) is
 
 text_read : (label : List ℕ) (secret : Secret) (version : ℕ) (opened : OpenedProtector) (got : Result Protector MetaFault)
-    → protector_by secret (protector_named label version got) ≡ Ok opened → IsOpenedOf label opened
+    → protector_by secret (checked_protector label version got) ≡ Ok opened → IsOpenedOf label opened
 text_read label secret version opened (Err fault) is = absurd (cc is)
 text_read label secret version opened (Ok p) is = label_compared label secret version p opened (bytes_eq p.name label) refl is
 
 opened_of : (label : List ℕ) (secret : Secret) (opened : OpenedProtector) (r : Reply)
-    → protector_by secret (protector_loaded label r) ≡ Ok opened → IsOpenedOf label opened
+    → protector_by secret (loaded_protector label r) ≡ Ok opened → IsOpenedOf label opened
 opened_of label secret opened (Held version bytes) is = text_read label secret version opened (protector_read bytes) is
 opened_of label secret opened (reply.Added id) is = absurd (cc is)
 opened_of label secret opened (reply.Removed others busy) is = absurd (cc is)
@@ -190,7 +190,7 @@ compared loaded key opened true same is =
     subst (λ (o : OpenedPolicy). key_id_of o.key ≡ o.loaded.policy.id) whole (same_id-eq (key_id_of key) loaded.policy.id same)
 
 unwrapped : (loaded : LoadedPolicy) (opened : OpenedPolicy) (got : Option (List ℕ))
-    → policy_with_key loaded (policy_key_found loaded.policy.id got) ≡ Ok opened → key_id_of opened.key ≡ opened.loaded.policy.id
+    → policy_with_key loaded (checked_policy_key loaded.policy.id got) ≡ Ok opened → key_id_of opened.key ≡ opened.loaded.policy.id
 unwrapped loaded opened None is = absurd (cc is)
 unwrapped loaded opened (Some key) is = compared loaded key opened (same_id (key_id_of key) loaded.policy.id) refl is
 
@@ -205,4 +205,4 @@ loaded_named protector key opened (Err outcome) is = absurd (cc is)
 loaded_named protector key opened (Ok loaded) is = through loaded key opened (wrap_for protector loaded.policy.wraps) is
 
 pub policies_named : OpenedPoliciesAreNamed
-policies_named label protector key reply opened is = loaded_named protector key opened (policy_loaded label reply) is
+policies_named label protector key reply opened is = loaded_named protector key opened (loaded_policy label reply) is

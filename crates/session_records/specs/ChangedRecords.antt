@@ -6,17 +6,17 @@ use Rattle.protector_meta.specs.declared.protector.Protector.{Protector}
 use Rattle.protector_meta.specs.ProtectorText.{IsProtector, protector_text}
 use Rattle.script_words.specs.declared.secrets.NewSecret.{NewSecret}
 use Rattle.script_words.specs.declared.secrets.Secret.{Secret}
-use Rattle.session_records.specs.declared.opened.OpenedProtector.{OpenedProtector}
+use Rattle.session_records.specs.declared.opening.OpenedProtector.{OpenedProtector}
 use Rattle.session_records.specs.NewProtectors.{changed_protector}
-use Rattle.session_records.specs.Records.{protector_opened}
+use Rattle.session_records.specs.Records.{unwrapped_protector}
 use Rattle.session_records.specs.MadeRecords.{secret_again, opened_protector}
 
 -- a protector that a secret opened, and that then got another one, opens with the new one, to the key that it had
 abbrev pub ChangedProtectorsOpen : Type 0
 ChangedProtectorsOpen =
     (label : List ℕ) (secret : Secret) (reply : Reply) (opened : OpenedProtector)
-    → protector_opened label secret reply ≡ Ok opened
+    → unwrapped_protector label secret reply ≡ Ok opened
     → (version : ℕ) (new : NewSecret) (iv salt : List ℕ)
     → (let changed : Protector = changed_protector opened.loaded.protector opened.key new iv salt in
-    IsProtector changed → protector_opened label (secret_again new) (Held version (protector_text changed))
+    IsProtector changed → unwrapped_protector label (secret_again new) (Held version (protector_text changed))
     ≡ Ok (opened_protector version changed opened.key))

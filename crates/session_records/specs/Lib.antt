@@ -1,5 +1,5 @@
-pub mod DrawnRecords
-pub mod Draws
+pub mod DerivedRecords
+pub mod Derivations
 pub mod MadeRecords
 pub mod ChangedRecords
 pub mod NewProtectors

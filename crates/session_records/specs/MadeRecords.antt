@@ -13,11 +13,11 @@ use Rattle.script_words.specs.declared.secrets.NewSecret.{NewSecret}
 use Rattle.script_words.specs.declared.secrets.NewSecret.TheVariants as new
 use Rattle.script_words.specs.declared.secrets.Secret.{Secret}
 use Rattle.script_words.specs.declared.secrets.Secret.TheVariants as old
-use Rattle.session_records.specs.declared.opened.OpenedPolicy.{OpenedPolicy}
-use Rattle.session_records.specs.declared.opened.OpenedProtector.{OpenedProtector}
+use Rattle.session_records.specs.declared.opening.OpenedPolicy.{OpenedPolicy}
+use Rattle.session_records.specs.declared.opening.OpenedProtector.{OpenedProtector}
 use Rattle.session_records.specs.NewPolicies.{made_policy, made_wrap}
 use Rattle.session_records.specs.NewProtectors.{made_protector}
-use Rattle.session_records.specs.Records.{policy_opened, protector_opened}
+use Rattle.session_records.specs.Records.{opened_policy, unwrapped_protector}
 use Rattle.session_records.specs.RecordKeys.{key_in_wrap}
 
 -- the secret of a later command that was this new secret once
@@ -35,7 +35,7 @@ abbrev pub MadeProtectorsOpen : Type 0
 MadeProtectorsOpen =
     (version : ℕ) (label key : List ℕ) (secret : NewSecret) (iv salt : List ℕ)
     → (let made : Protector = made_protector label key secret iv salt in
-    IsProtector made → protector_opened label (secret_again secret) (Held version (protector_text made))
+    IsProtector made → unwrapped_protector label (secret_again secret) (Held version (protector_text made))
     ≡ Ok (opened_protector version made key))
 
 -- a new policy whose record is stored opens through the protector under whose key its own was wrapped
@@ -43,7 +43,7 @@ abbrev pub MadePoliciesOpen : Type 0
 MadePoliciesOpen =
     (version : ℕ) (label protector key iv policy_key : List ℕ) (options : Options)
     → (let made : PolicyFile = made_policy label policy_key options (made_wrap protector key iv policy_key) in
-    IsPolicyFile made → policy_opened label protector key (Held version (policy_text made))
+    IsPolicyFile made → opened_policy label protector key (Held version (policy_text made))
     ≡ Ok (record { loaded = record { version = version; policy = made }; key = policy_key }))
 
 -- a policy's key opens with the key of the protector under which it was wrapped
@@ -56,5 +56,5 @@ MadeWrapsOpen =
 abbrev pub OpenedPoliciesAreNamed : Type 0
 OpenedPoliciesAreNamed =
     (label protector key : List ℕ) (reply : Reply) (opened : OpenedPolicy)
-    → policy_opened label protector key reply ≡ Ok opened
+    → opened_policy label protector key reply ≡ Ok opened
     → key_id_of opened.key ≡ opened.loaded.policy.id

@@ -14,9 +14,9 @@ abbrev pub usual_options : Options
 usual_options = record { pad = P32; unit = Block }
 
 -- the options that are given, and otherwise the usual ones
-abbrev pub options_said : Option SaidOptions → Options
-options_said None = usual_options
-options_said (Some said) = record { pad = said.pad; unit = said.unit }
+abbrev pub options_or_default : Option SaidOptions → Options
+options_or_default None = usual_options
+options_or_default (Some said) = record { pad = said.pad; unit = said.unit }
 
 -- a policy's key, wrapped with an iv under the key of the protector of this label
 abbrev pub made_wrap : List ℕ → List ℕ → List ℕ → List ℕ → Wrap

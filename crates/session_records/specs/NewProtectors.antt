@@ -6,7 +6,7 @@ use Rattle.key_wrap.specs.Wrapping.{wrapped_secret}
 use Rattle.protector_meta.specs.declared.protector.Protector.{Protector}
 use Rattle.protector_meta.specs.declared.protector.ProtectorKind.{ProtectorKind}
 use Rattle.protector_meta.specs.declared.protector.ProtectorKind.TheVariants as kind
-use Rattle.protector_meta.specs.Rewrapped.{rewrapped}
+use Rattle.protector_meta.specs.Rewrapped.{rewrapped_protector}
 use Rattle.script_words.specs.declared.secrets.NewSecret.{NewSecret}
 use Rattle.script_words.specs.declared.secrets.NewSecret.TheVariants as secret
 
@@ -34,4 +34,4 @@ made_protector label key new iv salt =
 
 -- the same protector with the same key, wrapped under a new secret's wrapping key
 abbrev pub changed_protector : Protector → List ℕ → NewSecret → List ℕ → List ℕ → Protector
-changed_protector old key new iv salt = rewrapped old (new_kind salt new) (new_wrapping_key salt new) iv key
+changed_protector old key new iv salt = rewrapped_protector old (new_kind salt new) (new_wrapping_key salt new) iv key

@@ -8,8 +8,8 @@ use Rattle.protector_meta.specs.declared.wraps.WrapFault.TheVariants as fault
 use Rattle.reply_text.specs.declared.outcome.Outcome.{Outcome}
 use Rattle.reply_text.specs.declared.outcome.Outcome.TheVariants.{Done, Refused, Conflict, NoMemory, OddReply}
 use Rattle.reply_text.specs.declared.outcome.Outcome.TheVariants.{NotListed, Listed, Full, LastOne}
-use Rattle.session_records.specs.declared.outcomes.Wanted.{Wanted}
-use Rattle.session_records.specs.declared.outcomes.Wanted.TheVariants as wanted
+use Rattle.session_records.specs.declared.outcomes.ExpectedReply.{ExpectedReply}
+use Rattle.session_records.specs.declared.outcomes.ExpectedReply.TheVariants as wanted
 
 -- if a call is refused: out of memory and another version have outcomes of their own
 abbrev pub outcome_of_refusal : Refusal → Outcome
@@ -23,7 +23,7 @@ outcome_of_other (reply.Refused refused) = outcome_of_refusal refused
 outcome_of_other other = OddReply
 
 -- the outcome of this reply, for the kind of reply that is expected
-abbrev pub outcome_of : Wanted → Reply → Outcome
+abbrev pub outcome_of : ExpectedReply → Reply → Outcome
 outcome_of wanted.Added (reply.Added id) = Done
 outcome_of wanted.Removed (reply.Removed others busy) = Done
 outcome_of wanted.Status (reply.Status state by_self users) = Done

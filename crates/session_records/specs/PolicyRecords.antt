@@ -13,8 +13,8 @@ unless_refused None value = Ok value
 unless_refused (Some refused) value = Err (outcome_of_wraps refused)
 
 -- whether the protector of this label can be given a wrap
-abbrev pub room_for : List ℕ → List Wrap → Result ⊤ Outcome
-room_for protector wraps = unless_refused (adding_fault protector wraps) tt
+abbrev pub wrap_space_for : List ℕ → List Wrap → Result ⊤ Outcome
+wrap_space_for protector wraps = unless_refused (adding_fault protector wraps) tt
 
 -- a policy with one wrap more
 abbrev pub policy_with : Wrap → PolicyFile → PolicyFile

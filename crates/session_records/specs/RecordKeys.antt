@@ -31,25 +31,25 @@ IsStretched (secret.Pass passphrase) (kind.Pass stretching) = ⊤
 IsStretched other kind = ⊥
 
 -- a protector's key that a wrapping key opened, if it has the descriptor in the record
-abbrev pub protector_key_found : List ℕ → Option (List ℕ) → Result (List ℕ) Outcome
-protector_key_found descriptor None = Err WrongKey
-protector_key_found descriptor (Some key) =
+abbrev pub checked_protector_key : List ℕ → Option (List ℕ) → Result (List ℕ) Outcome
+checked_protector_key descriptor None = Err WrongKey
+checked_protector_key descriptor (Some key) =
     if bytes_eq (descriptor_of key) descriptor then Ok key else Err BadRecord
 
 -- the key of a protector, under a wrapping key
 abbrev pub protector_key : Protector → List ℕ → Result (List ℕ) Outcome
 protector_key protector wrapping =
-    protector_key_found protector.descriptor (opened_secret wrapping protector.iv protector.key protector.tag)
+    checked_protector_key protector.descriptor (opened_secret wrapping protector.iv protector.key protector.tag)
 
 -- a policy's key that a protector's key opened, if it has the identifier in the record
-abbrev pub policy_key_found : KeyId → Option (List ℕ) → Result (List ℕ) Outcome
-policy_key_found id None = Err WrongKey
-policy_key_found id (Some key) = if same_id (key_id_of key) id then Ok key else Err BadRecord
+abbrev pub checked_policy_key : KeyId → Option (List ℕ) → Result (List ℕ) Outcome
+checked_policy_key id None = Err WrongKey
+checked_policy_key id (Some key) = if same_id (key_id_of key) id then Ok key else Err BadRecord
 
 -- the key of a policy, by a wrap of it and that protector's key
 abbrev pub key_in_wrap : KeyId → List ℕ → Option Wrap → Result (List ℕ) Outcome
 key_in_wrap id key None = Err NotListed
-key_in_wrap id key (Some wrap) = policy_key_found id (opened_secret key wrap.iv wrap.key wrap.tag)
+key_in_wrap id key (Some wrap) = checked_policy_key id (opened_secret key wrap.iv wrap.key wrap.tag)
 
 -- the key of a policy, through the protector of this label with this key
 abbrev pub policy_key : PolicyFile → List ℕ → List ℕ → Result (List ℕ) Outcome

@@ -3,11 +3,11 @@ use Rattle.std.specs.Prelude.{ℕ, ◌≡◌, List, Result, Ok, Err}
 use Rattle.mount_model.specs.declared.reply.Reply.{Reply}
 use Rattle.script_words.specs.declared.secrets.Secret.{Secret}
 use Rattle.reply_text.specs.declared.outcome.Outcome.{Outcome}
-use Rattle.session_records.specs.declared.loaded.LoadedPolicy.{LoadedPolicy}
-use Rattle.session_records.specs.declared.loaded.LoadedProtector.{LoadedProtector}
-use Rattle.session_records.specs.declared.opened.OpenedPolicy.{OpenedPolicy}
-use Rattle.session_records.specs.declared.opened.OpenedProtector.{OpenedProtector}
-use Rattle.session_records.specs.LoadedRecords.{policy_loaded, protector_loaded}
+use Rattle.session_records.specs.declared.loading.LoadedPolicy.{LoadedPolicy}
+use Rattle.session_records.specs.declared.loading.LoadedProtector.{LoadedProtector}
+use Rattle.session_records.specs.declared.opening.OpenedPolicy.{OpenedPolicy}
+use Rattle.session_records.specs.declared.opening.OpenedProtector.{OpenedProtector}
+use Rattle.session_records.specs.LoadedRecords.{loaded_policy, loaded_protector}
 use Rattle.session_records.specs.RecordKeys.{IsStretched, wrapping_key, protector_key, policy_key}
 
 -- ---- a protector opened by a secret
@@ -28,13 +28,13 @@ protector_by secret (Err outcome) = Err outcome
 protector_by secret (Ok loaded) = protector_under loaded (wrapping_key secret loaded.protector.kind)
 
 -- by the reply to loading its record
-abbrev pub protector_opened : List ℕ → Secret → Reply → Result OpenedProtector Outcome
-protector_opened label secret reply = protector_by secret (protector_loaded label reply)
+abbrev pub unwrapped_protector : List ℕ → Secret → Reply → Result OpenedProtector Outcome
+unwrapped_protector label secret reply = protector_by secret (loaded_protector label reply)
 
 -- the record is a protector of this label, and the secret a passphrase that is stretched for it
 abbrev pub OpensByStretching : List ℕ → Secret → Reply → Type 0
 OpensByStretching label secret reply =
-    (loaded : LoadedProtector) × ((protector_loaded label reply ≡ Ok loaded) × IsStretched secret loaded.protector.kind)
+    (loaded : LoadedProtector) × ((loaded_protector label reply ≡ Ok loaded) × IsStretched secret loaded.protector.kind)
 
 -- ---- a policy opened through a protector
 
@@ -48,5 +48,5 @@ policy_by protector key (Err outcome) = Err outcome
 policy_by protector key (Ok loaded) = policy_with_key loaded (policy_key loaded.policy protector key)
 
 -- by the reply to loading its record
-abbrev pub policy_opened : List ℕ → List ℕ → List ℕ → Reply → Result OpenedPolicy Outcome
-policy_opened label protector key reply = policy_by protector key (policy_loaded label reply)
+abbrev pub opened_policy : List ℕ → List ℕ → List ℕ → Reply → Result OpenedPolicy Outcome
+opened_policy label protector key reply = policy_by protector key (loaded_policy label reply)

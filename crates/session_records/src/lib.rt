@@ -3,12 +3,12 @@
 //! seed.
 #![tactic(auto)]
 
-mod drawn;
-mod drawn_records;
-mod draws;
-mod loaded;
+mod derivations;
+mod derived_keys;
+mod derived_records;
+mod loading;
 mod new_records;
-mod opened;
+mod opening;
 mod options;
 mod outcomes;
 mod stop;
@@ -16,14 +16,14 @@ mod stored;
 mod turn;
 mod wrapping;
 
-pub use drawn_records::{drawn_policy, drawn_protector, policy_widened, protector_rewrapped};
-pub use draws::{NONCE_BYTES, Purpose, distinct_draws, draw, nonce_drawn};
-pub use loaded::{LoadedPolicy, LoadedProtector, policy_loaded};
+pub use derivations::{NONCE_BYTES, Purpose, derived_nonce, distinct_derivations, draw};
+pub use derived_records::{new_policy, new_protector, policy_with_wrap, protector_with_secret};
+pub use loading::{LoadedPolicy, LoadedProtector, loaded_policy};
 pub use new_records::made_records_open;
-pub use opened::{OpenedPolicy, OpenedProtector, policy_opened, protector_opened};
+pub use opening::{OpenedPolicy, OpenedProtector, opened_policy, unwrapped_protector};
 pub use options::{node_policy, with_options};
-pub use outcomes::{Wanted, outcome_of};
+pub use outcomes::{ExpectedReply, outcome_of};
 pub use stop::Stop;
 pub use stored::{record_name, stored_policy, stored_protector};
 pub use turn::Turn;
-pub use wrapping::{policy_without, room_for};
+pub use wrapping::{policy_without, wrap_space_for};

@@ -20,8 +20,8 @@ pub(crate) fn usual_options() -> Options
 }
 
 // The options that are given, and otherwise the usual ones.
-pub(crate) fn options_said(options: Option<SaidOptions>) -> Options
-    ensures { result ≡ new.options_said options }
+pub(crate) fn options_or_default(options: Option<SaidOptions>) -> Options
+    ensures { result ≡ new.options_or_default options }
 {
     match options {
         Some(said) => Options {

@@ -9,7 +9,7 @@ use reply_text::Outcome;
 
 /// The kind of reply that is expected of a call.
 #[derive(Clone, Copy)]
-pub enum Wanted {
+pub enum ExpectedReply {
     /// A key was added.
     Added,
     /// A claim to a key was removed.
@@ -24,15 +24,15 @@ pub enum Wanted {
 
 /// Returns how a command ends whose last call has this reply: `Done` if it is the expected one, and
 /// otherwise the outcome of the reply.
-pub fn outcome_of(wanted: Wanted, reply: &Reply) -> Outcome
+pub fn outcome_of(wanted: ExpectedReply, reply: &Reply) -> Outcome
     ensures { result ≡ spec.outcome_of wanted reply.now }
 {
     match (wanted, reply) {
-        (Wanted::Added, Reply::Added(_))
-        | (Wanted::Removed, Reply::Removed { .. })
-        | (Wanted::Status, Reply::Status { .. })
-        | (Wanted::Done, Reply::Done)
-        | (Wanted::Stored, Reply::Stored(_)) => Outcome::Done,
+        (ExpectedReply::Added, Reply::Added(_))
+        | (ExpectedReply::Removed, Reply::Removed { .. })
+        | (ExpectedReply::Status, Reply::Status { .. })
+        | (ExpectedReply::Done, Reply::Done)
+        | (ExpectedReply::Stored, Reply::Stored(_)) => Outcome::Done,
         _ => outcome_of_other(reply),
     }
 }

@@ -1,7 +1,7 @@
 //! Policies' keys, wrapped under the keys of protectors.
 
 ghost use Rattle.std.specs.Prelude.{◌≡◌, length, Some, None, IfOk};
-ghost use Rattle.fsc_keys.specs.declared.raw_key.TheConstants.{MOST_RAW_KEY_BYTES};
+ghost use Rattle.fsc_keys.specs.declared.raw_key.TheConstants.{MAX_RAW_KEY_BYTES};
 ghost use Rattle.key_wrap.specs.Wrapping.{opened_secret};
 ghost use Rattle.protector_meta.specs.Wraps.{adding_fault};
 ghost use Rattle.session_records.specs.NewPolicies as new;
@@ -17,7 +17,7 @@ use std::alloc::AllocError;
 // A policy's key of 64 bytes, wrapped with an iv under the key of the protector of this label, which opens it
 // again.
 pub(crate) fn made_wrap(protector: &Label, key: &[u8; 32], iv: [u8; 16], policy_key: &[u8]) -> Wrap
-    requires { length policy_key.now ≡ MOST_RAW_KEY_BYTES }
+    requires { length policy_key.now ≡ MAX_RAW_KEY_BYTES }
     ensures value { result ≡ new.made_wrap protector.now key.now iv policy_key.now }
     ensures opens { opened_secret key.now result.iv result.key result.tag ≡ Some policy_key.now }
 {
@@ -34,9 +34,9 @@ pub(crate) fn made_wrap(protector: &Label, key: &[u8; 32], iv: [u8; 16], policy_
 }
 
 /// Checks whether the protector of this label can be given a wrap. Returns `Listed` if it has one
-/// already, and otherwise `Full` if there are `MOST_WRAPS` wraps.
-pub fn room_for(protector: &Label, wraps: &WrapList) -> Result<(), Outcome>
-    ensures { result ≡ spec.room_for protector.now wraps.now }
+/// already, and otherwise `Full` if there are `MAX_WRAPS` wraps.
+pub fn wrap_space_for(protector: &Label, wraps: &WrapList) -> Result<(), Outcome>
+    ensures { result ≡ spec.wrap_space_for protector.now wraps.now }
 {
     match wraps.adding_fault(protector) {
         Some(fault) => Err(outcome_of_wraps(fault)),

@@ -5,15 +5,15 @@ use Rattle.std.specs.List.{list_all}
 use Rattle.std.proofs.lemmas.Bool.{and_parts, leb-true}
 use Rattle.std.proofs.lemmas.Option.{cond_some}
 use Rattle.std.proofs.Common.{subst}
-use Rattle.short_bytes.specs.declared.label.TheConstants.{MOST_LABEL_BYTES}
+use Rattle.short_bytes.specs.declared.label.TheConstants.{MAX_LABEL_BYTES}
 use Rattle.short_bytes.specs.Label.{IsLabel, is_label, is_label_character, label_of}
 
 -- how many bytes a label has, and of which characters
-pub IsLabel-bounds : (bytes : List ℕ) → IsLabel bytes → (1 ≤ length bytes) × (length bytes ≤ MOST_LABEL_BYTES) × (list_all is_label_character bytes ≡ true)
+pub IsLabel-bounds : (bytes : List ℕ) → IsLabel bytes → (1 ≤ length bytes) × (length bytes ≤ MAX_LABEL_BYTES) × (list_all is_label_character bytes ≡ true)
 IsLabel-bounds bytes is =
-    let long = and_parts (nat_le 1 (length bytes)) (nat_le (length bytes) MOST_LABEL_BYTES && list_all is_label_character bytes) is in
-    let few = and_parts (nat_le (length bytes) MOST_LABEL_BYTES) (list_all is_label_character bytes) long.1 in
-    (leb-true 1 (length bytes) long.0, leb-true (length bytes) MOST_LABEL_BYTES few.0, few.1)
+    let long = and_parts (nat_le 1 (length bytes)) (nat_le (length bytes) MAX_LABEL_BYTES && list_all is_label_character bytes) is in
+    let few = and_parts (nat_le (length bytes) MAX_LABEL_BYTES) (list_all is_label_character bytes) long.1 in
+    (leb-true 1 (length bytes) long.0, leb-true (length bytes) MAX_LABEL_BYTES few.0, few.1)
 
 pub label_of-label : (label : List ℕ) → IsLabel label → label_of label ≡ Some label
 label_of-label label is = rw is refl

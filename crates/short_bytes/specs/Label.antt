@@ -2,7 +2,7 @@
 use Rattle.std.specs.Prelude.{ℕ, List, length, Bool, ◌&&◌, ◌||◌, ◌==◌, nat_le}
 use Rattle.std.specs.Prelude.{IsTrue, Option, Some, None, if◌then◌else◌}
 use Rattle.std.specs.List.{list_all}
-use Rattle.short_bytes.specs.declared.label.TheConstants.{MOST_LABEL_BYTES}
+use Rattle.short_bytes.specs.declared.label.TheConstants.{MAX_LABEL_BYTES}
 
 -- a small letter, a digit, `_` or `-`
 abbrev pub is_label_character : ℕ → Bool
@@ -12,7 +12,7 @@ is_label_character c =
 -- whether the bytes are 1 to 32 such characters
 abbrev pub is_label : List ℕ → Bool
 is_label bytes =
-    nat_le 1 (length bytes) && (nat_le (length bytes) MOST_LABEL_BYTES && list_all is_label_character bytes)
+    nat_le 1 (length bytes) && (nat_le (length bytes) MAX_LABEL_BYTES && list_all is_label_character bytes)
 
 -- the bytes are a label
 abbrev pub IsLabel : List ℕ → Type 0

@@ -9,12 +9,12 @@ use crate::filled::Filled;
 use std::marker::Model;
 
 /// The maximum number of bytes of a label.
-pub const MOST_LABEL_BYTES: usize = 32;
+pub const MAX_LABEL_BYTES: usize = 32;
 
 /// 1 to 32 of the characters `a` to `z`, `0` to `9`, `_` and `-`.
 #[derive(Clone, Copy, Debug, PartialEq, Eq, Hash)]
 pub struct Label {
-    bytes: Filled<MOST_LABEL_BYTES>,
+    bytes: Filled<MAX_LABEL_BYTES>,
 }
 
 impl Model for Label {
@@ -54,7 +54,7 @@ impl Label {
 fn is_label(bytes: &[u8]) -> bool
     ensures { result ≡ is_label bytes.now }
 {
-    !bytes.is_empty() && bytes.len() <= MOST_LABEL_BYTES && are_label_characters(bytes)
+    !bytes.is_empty() && bytes.len() <= MAX_LABEL_BYTES && are_label_characters(bytes)
 }
 
 fn are_label_characters(bytes: &[u8]) -> bool

@@ -5,4 +5,4 @@ mod filled;
 mod label;
 
 pub use filled::Filled;
-pub use label::{Label, MOST_LABEL_BYTES};
+pub use label::{Label, MAX_LABEL_BYTES};

@@ -29,7 +29,7 @@ impl Sum {
 impl Machine for Sum {
     type Call = u64;
 
-    type Lent = u64;
+    type Pending = u64;
 
     type Reply = u64;
 
@@ -39,7 +39,7 @@ impl Machine for Sum {
 
     ghost lawful = { HasSums 0 };
 
-    ghost leads = { λ history sum. HasSums 0 history × (sum.total ≡ sum_after 0 history) };
+    ghost reaches = { λ history sum. HasSums 0 history × (sum.total ≡ sum_after 0 history) };
 
     fn begin(&mut self, _who: u32, number: &u64) -> u64 {
         self.total = self.total.wrapping_add(*number);
@@ -50,5 +50,5 @@ impl Machine for Sum {
         lent
     }
 
-    ghost leads_lawful = { λ history sum led. led.0 };
+    ghost reaches_lawful = { λ history sum reached_by. reached_by.0 };
 }

@@ -37,7 +37,7 @@ struct Signals {
 impl Machine for Signals {
     type Call = ();
 
-    type Lent = (u32, Option<Arc<Flags, Global>>);
+    type Pending = (u32, Option<Arc<Flags, Global>>);
 
     type Reply = u32;
 
@@ -47,7 +47,7 @@ impl Machine for Signals {
 
     ghost lawful = { λ _. Unit {0} };
 
-    ghost leads = { λ _ _. Unit {0} };
+    ghost reaches = { λ _ _. Unit {0} };
 
     fn begin(&mut self, who: u32, _call: &()) -> (u32, Option<Arc<Flags, Global>>) {
         if who == 0 {
@@ -67,7 +67,7 @@ impl Machine for Signals {
         who
     }
 
-    ghost leads_lawful = { λ _ _ _. tt };
+    ghost reaches_lawful = { λ _ _ _. tt };
 }
 
 // Caller 1 begins once caller 0 has begun, and signals when it has its reply.

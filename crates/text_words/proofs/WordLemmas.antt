@@ -14,7 +14,7 @@ use Rattle.hex.specs.Hex.{encode_lower, IsBytes}
 use Rattle.hex.proofs.HexLemmas.{decode_of-encode_lower, decode_of-ok}
 use Rattle.text_words.specs.Digits.{hex_bytes_of_length, lower_hex_bytes_of_length, is_lower_hex_digit}
 use Rattle.text_words.specs.Numbers.{decimal_of}
-use Rattle.text_words.specs.Words.{behind}
+use Rattle.text_words.specs.Words.{rest_after}
 use Rattle.text_words.proofs.DigitLemmas.{lower_written, lower_every, spells}
 use Rattle.text_words.proofs.NumberLemmas.{test-from_IsDecimal, IsDecimal-decimal_of}
 use Rattle.text_words.proofs.PieceLemmas.{is_free_of}
@@ -29,11 +29,11 @@ chose false o x h = absurd (cc h)
 same_bytes : (xs : List ℕ) → bytes_eq xs xs ≡ true
 same_bytes xs = nat_list_eq_equiv.refl xs
 
-pub behind_again : (word rest : List ℕ) → behind word (word ++ rest) ≡ Some rest
+pub behind_again : (word rest : List ℕ) → rest_after word (word ++ rest) ≡ Some rest
 behind_again word rest =
     rw (take_at word rest (length word) refl, drop_at word rest (length word) refl, same_bytes word) refl
 
-pub behind_found : (word text rest : List ℕ) → behind word text ≡ Some rest → text ≡ word ++ rest
+pub behind_found : (word text rest : List ℕ) → rest_after word text ≡ Some rest → text ≡ word ++ rest
 behind_found word text rest h =
     let taken = cond_some (bytes_eq (take (length word) text) word) (drop (length word) text) rest h in
     let front : take (length word) text ≡ word = same_text _ _ (sym taken.0) in

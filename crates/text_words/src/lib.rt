@@ -14,5 +14,5 @@ pub use digits::{hex_bytes, hex_bytes_into, is_lower_hex, lower_hex_bytes, lower
 pub use lines::{Line, line_count, next_line};
 pub use numbers::{DecimalText, decimal_digits, decimal_value, decimal_value_u64};
 pub use parts::may_be_part;
-pub use words::{behind, nth_word, two_words, word_count};
+pub use words::{nth_word, rest_after, two_words, word_count};
 pub use writing::{push_decimal, push_lower_hex};

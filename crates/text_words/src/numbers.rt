@@ -10,12 +10,12 @@ ghost use Rattle.text_words.specs.Numbers.{decimal_of, number_below};
 use std::marker::Model;
 
 /// The maximal number of digits of a number below 2^64.
-const MOST_DIGITS: usize = 20;
+const MAX_DIGITS: usize = 20;
 
 /// The decimal numeral of a number: 1 to 20 digits.
 #[derive(Drop)]
 pub struct DecimalText {
-    digits: [u8; MOST_DIGITS],
+    digits: [u8; MAX_DIGITS],
     start: usize,
 }
 
@@ -40,8 +40,8 @@ impl DecimalText {
 pub fn decimal_digits(number: u64) -> DecimalText
     ensures { result ≡ decimal_of number }
 {
-    let mut digits = [0; MOST_DIGITS];
-    let start = itoa::write_digits(number, &mut digits, MOST_DIGITS);
+    let mut digits = [0; MAX_DIGITS];
+    let start = itoa::write_digits(number, &mut digits, MAX_DIGITS);
     DecimalText { digits, start }
 }
 

@@ -31,8 +31,8 @@ pub fn two_words(line: &[u8]) -> Option<(&[u8], &[u8])>
 }
 
 /// Returns the text after a word with which it begins, or `None` if it doesn't begin so.
-pub fn behind<'a>(text: &'a [u8], word: &[u8]) -> Option<&'a [u8]>
-    ensures { option_map (λ rest. rest.now) result ≡ spec.behind word.now text.now }
+pub fn rest_after<'a>(text: &'a [u8], word: &[u8]) -> Option<&'a [u8]>
+    ensures { option_map (λ rest. rest.now) result ≡ spec.rest_after word.now text.now }
 {
     text.strip_prefix(word)
 }

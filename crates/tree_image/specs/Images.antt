@@ -8,12 +8,12 @@ use Rattle.disk_tree.specs.declared.node.StoredNode.{StoredNode}
 use Rattle.mount_model.specs.PlainMount.{PlainMount, Raws}
 use Rattle.mount_state.specs.Stored.{stored_node}
 use Rattle.image_lines.specs.Image.{Image, ImageNode}
-use Rattle.tree_image.specs.Order.{ordered}
+use Rattle.tree_image.specs.Order.{body_in_order}
 
 -- the image of a stored node: its number, the bytes of its context, and its body, with the entries of a
 -- directory in order
 abbrev pub image_node : ℕ × StoredNode → ImageNode
-image_node e = record { number = e.0; context = e.1.context; body = ordered e.1.body }
+image_node e = record { number = e.0; context = e.1.context; body = body_in_order e.1.body }
 
 -- a node that is open but has no name is left out
 abbrev pub image_from : List (ℕ × StoredNode) → Image

@@ -21,5 +21,5 @@ in_order [] = []
 in_order (e ∷ es) = put_in_order e (in_order es)
 
 -- a directory with its entries in order; every other body is unchanged
-abbrev pub ordered : Body → Body
-ordered body = with_entries in_order body
+abbrev pub body_in_order : Body → Body
+body_in_order body = with_entries in_order body

@@ -4,9 +4,9 @@ ghost use Rattle.std.specs.Prelude.{◌≡◌, ◌+◌, length, map, IfSome};
 ghost use Rattle.hex.specs.Hex.{encode_lower};
 ghost use Rattle.text_words.specs.Numbers.{decimal_of};
 ghost use Rattle.image_lines.specs.ImageText.{block_line, body_lines, context_text, ended, entry_line, image_text};
-ghost use Rattle.image_lines.specs.ImageText.{told_kind, kind_text, node_lines};
+ghost use Rattle.image_lines.specs.ImageText.{kind_of_body, kind_text, node_lines};
 ghost use Rattle.tree_image.specs.Images.{image_node, image_of};
-ghost use Rattle.tree_image.specs.Order.{in_order, ordered};
+ghost use Rattle.tree_image.specs.Order.{in_order, body_in_order};
 
 use disk_tree::{BlockList, Body, DirEntries, DiskTree, StoredNode};
 use text_words::decimal_digits;
@@ -43,7 +43,7 @@ fn numeral_len(number: u32) -> usize
 // The length of the part of a node's line after its number, or `None`.
 #[tactic(auto, using(crate::proofs::LengthLemmas::digits_are))]
 fn kind_len(context: &Option<[u8; 40]>, body: &Body) -> Option<usize>
-    ensures { IfSome result (λ len. len ≡ length (kind_text context.now (told_kind (ordered body.now)))) }
+    ensures { IfSome result (λ len. len ≡ length (kind_text context.now (kind_of_body (body_in_order body.now)))) }
 {
     let context = context_len(context)?;
     match body {
@@ -75,7 +75,7 @@ fn digits_len(bytes: &[u8]) -> Option<usize>
 
 // The length of the lines after a node's own, or `None`.
 fn lines_len(body: &Body) -> Option<usize>
-    ensures { IfSome result (λ len. len ≡ length (ended (body_lines (ordered body.now)))) }
+    ensures { IfSome result (λ len. len ≡ length (ended (body_lines (body_in_order body.now)))) }
 {
     match body {
         Body::Dir(entries) => entries_len(entries),

@@ -3,9 +3,9 @@
 ghost use Rattle.std.specs.Prelude.{◌≡◌, ◌++◌, [], ◌∷◌, IfOk, OnOk, map};
 ghost use Rattle.std.specs.List.{flat_map};
 ghost use Rattle.image_lines.specs.ImageText.{block_line, body_lines, context_text, ended, entry_line, image_text};
-ghost use Rattle.image_lines.specs.ImageText.{told_kind, kind_text, node_lines};
+ghost use Rattle.image_lines.specs.ImageText.{kind_of_body, kind_text, node_lines};
 ghost use Rattle.tree_image.specs.Images.{image_node, image_of};
-ghost use Rattle.tree_image.specs.Order.{ordered};
+ghost use Rattle.tree_image.specs.Order.{body_in_order};
 
 use crate::length::image_len;
 use crate::order::entries_in_order;
@@ -64,7 +64,7 @@ fn push_node(
 // Writes the part of a node's line after its number.
 fn push_kind(text: &mut Vec<u8>, context: &Option<[u8; 40]>, body: &Body) -> Result<(), AllocError>
     ensures { OnOk result (text.new.items
-        ≡ text.old.items ++ kind_text context.now (told_kind (ordered body.now))) }
+        ≡ text.old.items ++ kind_text context.now (kind_of_body (body_in_order body.now))) }
 {
     match body {
         Body::Dir(_) => {
@@ -100,7 +100,7 @@ fn push_context(text: &mut Vec<u8>, context: &Option<[u8; 40]>) -> Result<(), Al
 
 // Writes a line for each entry or block.
 fn push_lines(alloc: Global, text: &mut Vec<u8>, body: &Body) -> Result<(), AllocError>
-    ensures { OnOk result (text.new.items ≡ text.old.items ++ ended (body_lines (ordered body.now))) }
+    ensures { OnOk result (text.new.items ≡ text.old.items ++ ended (body_lines (body_in_order body.now))) }
 {
     match body {
         Body::Dir(entries) => {

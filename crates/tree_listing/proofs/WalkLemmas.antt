@@ -15,17 +15,17 @@ use Rattle.disk_tree.specs.Nodes.{entries_of}
 use Rattle.image_lines.specs.Image.{Image, ImageNode, numbers_of}
 use Rattle.image_lines.specs.Rules.{BeginsWithRoot, HasGoodChildren, IsImage}
 use Rattle.image_lines.specs.Marks.{IsIndexOf}
-use Rattle.image_lines.specs.Told.{body_at}
+use Rattle.image_lines.specs.WordForms.{body_at}
 use Rattle.image_lines.specs.declared.node_line.NodeKind.{NodeKind}
 use Rattle.image_lines.specs.declared.node_line.NodeKind.TheVariants.{File, Link}
 use Rattle.tree_listing.specs.PlacedEntries.{IsReached}
 use Rattle.tree_listing.specs.declared.walk.Way.{Way}
 use Rattle.tree_listing.specs.declared.walk.Way.TheVariants.{Nowhere, AtRoot, By}
 use Rattle.tree_listing.specs.Walk.{AreFollowed, AreFound, HasEntries, IsFollowed, is_among}
-use Rattle.tree_listing.specs.Ways.{AreWays, IsLedBy, IsWayTo, is_nowhere}
+use Rattle.tree_listing.specs.Ways.{AreWays, IsEntryTo, IsWayTo, is_nowhere}
 use Rattle.tree_listing.proofs.Members.{In, in_back, in_from_contains, contains_from_in, among_from_in, in_from_among, holds_in, get_from_in}
 use Rattle.image_lines.specs.ImageText.{image_text}
-use Rattle.image_lines.specs.Lines.{entry_told}
+use Rattle.image_lines.specs.Lines.{entry_of_line}
 use Rattle.image_lines.specs.Nodes.{IsRestOf}
 use Rattle.text_words.specs.Lines.{is_line_feed}
 use Rattle.std.specs.List.{before_first}
@@ -124,7 +124,7 @@ all_found image order root followed (IsReached.step n placed leads up) =
     (holds_in (λ (e : List ℕ × ℕ). is_among order e.1 ≡ true) (entries_of placed.0.body) placed.1
     (recursion_from_All (λ e. is_among order e.1 ≡ true) (entries_of placed.0.body) found) from.1)
 
-pub reached_more : (image : Image) (order : List ℕ) (child parent at : ℕ) → All (IsReached image) order → is_among order parent ≡ true → IsLedBy image child parent at
+pub reached_more : (image : Image) (order : List ℕ) (child parent at : ℕ) → All (IsReached image) order → is_among order parent ≡ true → IsEntryTo image child parent at
     → All (IsReached image) (order ++ child ∷ [])
 reached_more image order child parent at reached found led =
     let above : IsReached image parent = holds_in (IsReached image) order parent (recursion_from_All (IsReached image) order reached) (in_from_among order parent found) in
@@ -149,14 +149,14 @@ none_followed image order k lt = absurd (omega (arith, lt))
 
 -- an entry's line is the way to the entry's child
 pub led_by : (image : Image) → HasGoodChildren image → (n : ℕ) (passed more entries : Entries) (e : List ℕ × ℕ) (rest : List ℕ) → HasEntries image n entries
-    → passed ++ e ∷ more ≡ entries → IsRestOf (image_text image) rest → entry_told (before_first is_line_feed rest) ≡ Some e
-    → IsLedBy image e.1 n (length (image_text image) - length rest)
+    → passed ++ e ∷ more ≡ entries → IsRestOf (image_text image) rest → entry_of_line (before_first is_line_feed rest) ≡ Some e
+    → IsEntryTo image e.1 n (length (image_text image) - length rest)
 led_by image good n passed more entries e rest own parts end line = record {
   placed = (own.dir, e);
   leads = entry_to_own image good own.dir e (in_from_contains image own.dir own.there)
       (subst (In e) (parts ∙ sym own.own) (in_back e passed (e ∷ more) (inl refl)));
   has = own.number;
-  line = ap (λ (l : List ℕ). entry_told (before_first is_line_feed l)) (sym end) ∙ line;
+  line = ap (λ (l : List ℕ). entry_of_line (before_first is_line_feed l)) (sym end) ∙ line;
 }
 
 pub rest_within : (text rest : List ℕ) → IsRestOf text rest → length rest ≤ length text

@@ -4,26 +4,26 @@ use Rattle.std.specs.Option.{option_map}
 use Rattle.disk_tree.specs.declared.node.Body.{Body}
 use Rattle.disk_tree.specs.declared.node.Body.TheVariants as stored
 use Rattle.image_lines.specs.Image.{Image, ImageNode}
-use Rattle.tree_listing.specs.Sights.{sight_of, word_seen, digest_seen}
+use Rattle.tree_listing.specs.Sights.{sight_of, visible_word, visible_digest}
 use Rattle.tree_listing.specs.ListingText.{ListedBody, Dir, File, Link, ListedNode, listing_text}
 use Rattle.tree_listing.specs.PlacedEntries.{PlacedEntry, entry_to, IsReached}
 
 -- the parent's number, and the name as the reader sees it in the parent
-abbrev pub place_seen : Option (List ℕ) → PlacedEntry → ℕ × List ℕ
-place_seen raw placed =
-    (placed.0.number, word_seen (sight_of raw placed.0.context) placed.0.number placed.1.0)
+abbrev pub visible_place : Option (List ℕ) → PlacedEntry → ℕ × List ℕ
+visible_place raw placed =
+    (placed.0.number, visible_word (sight_of raw placed.0.context) placed.0.number placed.1.0)
 
-abbrev pub body_seen : Option (List ℕ) → ℕ → Option (List ℕ) → Body → ListedBody
-body_seen raw n context (stored.Dir entries) = Dir (length entries)
-body_seen raw n context (stored.File blocks size) =
-    File size (digest_seen (sight_of raw context) n blocks size)
-body_seen raw n context (stored.Link target) = Link (word_seen (sight_of raw context) n target)
+abbrev pub visible_body : Option (List ℕ) → ℕ → Option (List ℕ) → Body → ListedBody
+visible_body raw n context (stored.Dir entries) = Dir (length entries)
+visible_body raw n context (stored.File blocks size) =
+    File size (visible_digest (sight_of raw context) n blocks size)
+visible_body raw n context (stored.Link target) = Link (visible_word (sight_of raw context) n target)
 
 abbrev pub listed : Option (List ℕ) → Image → ImageNode → ListedNode
 listed raw image node = record {
   number = node.number;
-  place = option_map (place_seen raw) (entry_to image node.number);
-  body = body_seen raw node.number node.context node.body;
+  place = option_map (visible_place raw) (entry_to image node.number);
+  body = visible_body raw node.number node.context node.body;
 }
 
 -- the listing of an image with this raw key, or with none: a line for each node that is reached, in order of

@@ -33,14 +33,14 @@ word_or_text stored [] = nokey_text_of stored
 word_or_text stored (b ∷ bs) = word_text (b ∷ bs)
 
 -- how a stored name of the directory n, or the stored target of the link n, is shown
-abbrev pub word_seen : Sight → ℕ → List ℕ → List ℕ
-word_seen Plain n stored = word_text stored
-word_seen Locked n stored = nokey_text_of stored
-word_seen (Under raw context) n stored = word_or_text stored (name_under raw context n stored)
+abbrev pub visible_word : Sight → ℕ → List ℕ → List ℕ
+visible_word Plain n stored = word_text stored
+visible_word Locked n stored = nokey_text_of stored
+visible_word (Under raw context) n stored = word_or_text stored (name_under raw context n stored)
 
 -- the SHA-256 of the contents of the file n, if they can be read
-abbrev pub digest_seen : Sight → ℕ → List (List ℕ) → ℕ → Option (List ℕ)
-digest_seen Plain n blocks size = Some (sha256 (read_contents None size blocks))
-digest_seen Locked n blocks size = None
-digest_seen (Under raw context) n blocks size =
+abbrev pub visible_digest : Sight → ℕ → List (List ℕ) → ℕ → Option (List ℕ)
+visible_digest Plain n blocks size = Some (sha256 (read_contents None size blocks))
+visible_digest Locked n blocks size = None
+visible_digest (Under raw context) n blocks size =
     Some (sha256 (read_contents (Some (seal_in raw context n)) size blocks))

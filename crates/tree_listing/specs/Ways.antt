@@ -5,17 +5,17 @@ use Rattle.std.specs.List.{before_first}
 use Rattle.text_words.specs.Lines.{is_line_feed}
 use Rattle.image_lines.specs.Image.{Image, ImageNode}
 use Rattle.image_lines.specs.ImageText.{image_text}
-use Rattle.image_lines.specs.Lines.{entry_told}
+use Rattle.image_lines.specs.Lines.{entry_of_line}
 use Rattle.tree_listing.specs.declared.walk.Way.{Way}
 use Rattle.tree_listing.specs.declared.walk.Way.TheVariants.{Nowhere, AtRoot, By}
 use Rattle.tree_listing.specs.PlacedEntries.{IsReached, PlacedEntry, entry_to}
 
 -- the entry of the line that begins at this index of the text
 abbrev pub entry_at : List ℕ → ℕ → Option (List ℕ × ℕ)
-entry_at text at = entry_told (before_first is_line_feed (drop at text))
+entry_at text at = entry_of_line (before_first is_line_feed (drop at text))
 
 -- the entry whose child is node n is in the directory of this number, and its line begins at this index
-pub record IsLedBy (image : Image) (n parent at : ℕ) : Type 0 where
+pub record IsEntryTo (image : Image) (n parent at : ℕ) : Type 0 where
   pub placed : PlacedEntry
   pub leads : entry_to image n ≡ Some placed
   pub has : placed.0.number ≡ parent
@@ -25,7 +25,7 @@ pub record IsLedBy (image : Image) (n parent at : ℕ) : Type 0 where
 abbrev pub IsWayTo : Image → Bool → ℕ → Way → Type 0
 IsWayTo image found n Nowhere = found ≡ false
 IsWayTo image found n AtRoot = (found ≡ true) × (entry_to image n ≡ None)
-IsWayTo image found n (By parent at) = (found ≡ true) × IsLedBy image n parent at
+IsWayTo image found n (By parent at) = (found ≡ true) × IsEntryTo image n parent at
 
 abbrev pub is_nowhere : Way → Bool
 is_nowhere Nowhere = true

@@ -15,7 +15,7 @@ use xts_mode::XtsKey;
 
 // Returns the name of a stored one in the directory of this number and context, or the target of the
 // link. It is an error exactly if the first byte is decrypted to NUL.
-pub(crate) fn decipher(
+pub(crate) fn decrypted_word(
     reader: &Reader<'_>,
     context: &[u8; CONTEXT_LEN],
     number: u32,

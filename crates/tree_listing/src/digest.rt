@@ -2,13 +2,13 @@
 
 ghost use Rattle.std.specs.Prelude.{◌≡◌, ◌≤◌, Some, None, length};
 ghost use Rattle.sha2.specs.Sha256.{sha256};
-ghost use Rattle.mount_limits.specs.declared.TheConstants.{MOST_FILE_BYTES};
+ghost use Rattle.mount_limits.specs.declared.TheConstants.{MAX_FILE_BYTES};
 ghost use Rattle.text_words.specs.Lines.{pieces_of};
 ghost use Rattle.data_crypt.specs.Blocks.{read_contents};
 ghost use Rattle.data_crypt.specs.Ciphers.{seal_by};
-ghost use Rattle.image_lines.specs.Told.{blocks_at};
+ghost use Rattle.image_lines.specs.WordForms.{blocks_at};
 ghost use Rattle.image_lines.specs.NodeRules.{blocks_for};
-ghost use Rattle.tree_listing.specs.Sights.{digest_seen, sight_of};
+ghost use Rattle.tree_listing.specs.Sights.{visible_digest, sight_of};
 
 use crate::ciphers::fill;
 use crate::reader::Reader;
@@ -29,8 +29,8 @@ pub(crate) fn digest_shown(
     lines: &[u8],
 ) -> Option<[u8; 32]>
     requires blocks { length (blocks_at (pieces_of lines.now)) ≡ blocks_for size }
-    requires small { size ≤ MOST_FILE_BYTES }
-    ensures { result ≡ digest_seen (sight_of reader.now context.now) number
+    requires small { size ≤ MAX_FILE_BYTES }
+    ensures { result ≡ visible_digest (sight_of reader.now context.now) number
         (blocks_at (pieces_of lines.now)) size }
 {
     match context {
@@ -51,7 +51,7 @@ pub(crate) fn digest_shown(
 // Returns the SHA-256 of the contents of `size` bytes whose blocks are on the first lines.
 fn digest_of(cipher: &Option<FileCipher>, size: u32, lines: &[u8]) -> [u8; 32]
     requires blocks { length (blocks_at (pieces_of lines.now)) ≡ blocks_for size }
-    requires small { size ≤ MOST_FILE_BYTES }
+    requires small { size ≤ MAX_FILE_BYTES }
     ensures { result ≡ sha256 (read_contents (seal_by cipher.now) size (blocks_at (pieces_of lines.now))) }
 {
     let mut hasher = Sha256::new();

@@ -3,9 +3,9 @@
 ghost use Rattle.std.specs.Prelude.{◌≡◌, ◌<◌, ◌≤◌, ℕ, List, [], ◌∷◌, Some, length, IfSome, MatchOption};
 ghost use Rattle.std.specs.List.{before_first};
 ghost use Rattle.text_words.specs.Lines.{is_line_feed, pieces_of};
-ghost use Rattle.image_lines.specs.Lines.{entry_told};
+ghost use Rattle.image_lines.specs.Lines.{entry_of_line};
 ghost use Rattle.image_lines.specs.Nodes.{IsRestOf};
-ghost use Rattle.image_lines.specs.Told.{entries_at};
+ghost use Rattle.image_lines.specs.WordForms.{entries_at};
 
 use image_lines::{EntryLine, read_entry_line};
 use text_words::next_line;
@@ -24,7 +24,7 @@ pub(crate) fn first_entry(lines: &[u8]) -> Option<FirstEntry<'_>>
     ensures entries { MatchOption result (entries_at (pieces_of lines.now) ≡ [])
         (λ first. entries_at (pieces_of lines.now)
         ≡ (first.entry.name, first.entry.child) ∷ entries_at (pieces_of first.rest.now)) }
-    ensures line { IfSome result (λ first. entry_told (before_first is_line_feed lines.now)
+    ensures line { IfSome result (λ first. entry_of_line (before_first is_line_feed lines.now)
         ≡ Some (first.entry.name, first.entry.child)) }
     ensures shorter { IfSome result (λ first. length first.rest.now < length lines.now) }
     ensures rest { IfSome result (λ first. (text : List ℕ) → IsRestOf text lines.now

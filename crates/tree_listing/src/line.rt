@@ -8,7 +8,7 @@ ghost use Rattle.image_lines.specs.Image.{ImageNode};
 ghost use Rattle.image_lines.specs.ImageText.{image_text};
 ghost use Rattle.image_lines.specs.Nodes.{node_in};
 ghost use Rattle.image_lines.specs.NodeRules.{IsNode};
-ghost use Rattle.tree_listing.specs.Listing.{body_seen, listed, place_seen};
+ghost use Rattle.tree_listing.specs.Listing.{visible_body, listed, visible_place};
 ghost use Rattle.tree_listing.specs.PlacedEntries.{entry_to};
 ghost use Rattle.tree_listing.specs.ListingText.{body_text, digest_text, line_text, place_text};
 ghost use Rattle.tree_listing.specs.Ways as spec;
@@ -18,7 +18,7 @@ use crate::digest::digest_shown;
 use crate::entries::entry_count;
 use crate::reader::Reader;
 use crate::walk::Way;
-use crate::words::push_shown;
+use crate::words::push_visible_name;
 use image_lines::{EntryLine, Image, NodeKind, NodeText, read_entry_line};
 use policy_ctx::CONTEXT_LEN;
 use script_words::push_number;
@@ -57,7 +57,7 @@ fn push_place(
     requires { IsWayTo image.now true number way }
     ensures { OnOk result (text.new.items ≡ text.old.items
         ++ (decimal_of number
-        ++ 32 ∷ place_text (option_map (place_seen reader.now) (entry_to image.now number)))) }
+        ++ 32 ∷ place_text (option_map (visible_place reader.now) (entry_to image.now number)))) }
 {
     // The clause `image` of `text` holds: the nodes are an image.
     let _text = image.text();
@@ -70,7 +70,7 @@ fn push_place(
             let Some(entry) = entry_at(image, at) else {
                 unreachable!();
             };
-            push_shown(
+            push_visible_name(
                 alloc,
                 text,
                 reader,
@@ -114,7 +114,7 @@ fn push_body(
 ) -> Result<(), AllocError>
     requires { IsNode (node_in node.now) }
     ensures { OnOk result (text.new.items ≡ text.old.items
-        ++ 32 ∷ body_text (body_seen reader.now node.now.line.number node.now.line.context
+        ++ 32 ∷ body_text (visible_body reader.now node.now.line.number node.now.line.context
         (node_in node.now).body)) }
 {
     match &node.line.kind {
@@ -137,7 +137,7 @@ fn push_body(
         }
         NodeKind::Link(target) => {
             text.extend_from_slice(b" link")?;
-            push_shown(
+            push_visible_name(
                 alloc,
                 text,
                 reader,

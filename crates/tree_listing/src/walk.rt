@@ -4,9 +4,9 @@ ghost use Rattle.std.specs.Prelude.{◌≡◌, ◌<◌, [], ◌∷◌, true, IfO
 ghost use Rattle.text_words.specs.Lines.{pieces_of};
 ghost use Rattle.image_lines.specs.ImageText.{image_text};
 ghost use Rattle.image_lines.specs.Nodes.{IsRestOf};
-ghost use Rattle.image_lines.specs.Told.{entries_at};
+ghost use Rattle.image_lines.specs.WordForms.{entries_at};
 ghost use Rattle.tree_listing.specs.Walk.{AreFound, GoesOn, HasEntries, IsFollowed, IsWalk, is_among};
-ghost use Rattle.tree_listing.specs.Ways.{AreWaysToReached, IsLedBy};
+ghost use Rattle.tree_listing.specs.Ways.{AreWaysToReached, IsEntryTo};
 
 use crate::entries::first_entry;
 use image_lines::{Image, NodeKind};
@@ -117,7 +117,7 @@ fn lead_to(
 ) -> Result<(), AllocError>
     requires walk { IsWalk image.now walk.old }
     requires found { is_among walk.old.order.items parent ≡ true }
-    requires led { IsLedBy image.now child parent at }
+    requires led { IsEntryTo image.now child parent at }
     ensures walk { OnOk result (IsWalk image.now walk.new) }
     ensures goes_on { OnOk result (GoesOn walk.old walk.new) }
     ensures found { OnOk result (is_among walk.new.order.items child ≡ true) }

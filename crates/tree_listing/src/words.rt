@@ -1,12 +1,12 @@
 //! Names and targets, as the reader of a listing sees them.
 
 ghost use Rattle.std.specs.Prelude.{◌≡◌, ◌≤◌, ◌++◌, ◌∷◌, ◌-◌, true, length, is_some, OnOk};
-ghost use Rattle.name_crypt.specs.declared.limits.TheConstants.{LEAST_STORED_BYTES};
+ghost use Rattle.name_crypt.specs.declared.limits.TheConstants.{MIN_STORED_BYTES};
 ghost use Rattle.name_crypt.specs.NoKeyText.{nokey_text_of};
-ghost use Rattle.tree_listing.specs.Sights.{sight_of, word_or_text, word_seen};
+ghost use Rattle.tree_listing.specs.Sights.{sight_of, word_or_text, visible_word};
 ghost use Rattle.tree_listing.specs.DrawnKeys.{name_under};
 
-use crate::ciphers::decipher;
+use crate::ciphers::decrypted_word;
 use crate::reader::Reader;
 use image_lines::StoredBytes;
 use name_crypt::{StoredName, nokey_text};
@@ -16,7 +16,7 @@ use std::alloc::{AllocError, Global};
 
 // Writes a space, and the word by which a stored name in the directory of this number and context is
 // shown, or the stored target of the link.
-pub(crate) fn push_shown(
+pub(crate) fn push_visible_name(
     alloc: Global,
     text: &mut Vec<u8>,
     reader: &Option<Reader<'_>>,
@@ -24,9 +24,9 @@ pub(crate) fn push_shown(
     context: &Option<[u8; CONTEXT_LEN]>,
     stored: &StoredBytes,
 ) -> Result<(), AllocError>
-    requires { is_some context.now ≡ true → LEAST_STORED_BYTES ≤ length stored.now }
+    requires { is_some context.now ≡ true → MIN_STORED_BYTES ≤ length stored.now }
     ensures { OnOk result (text.new.items
-        ≡ text.old.items ++ 32 ∷ word_seen (sight_of reader.now context.now) number stored.now) }
+        ≡ text.old.items ++ 32 ∷ visible_word (sight_of reader.now context.now) number stored.now) }
 {
     match context {
         None => push_word(alloc, text, stored.bytes()),
@@ -56,7 +56,7 @@ fn push_opened(
     ensures { OnOk result (text.new.items ≡ text.old.items
         ++ 32 ∷ word_or_text stored.now (name_under reader.now context.now number stored.now)) }
 {
-    match decipher(reader, context, number, stored) {
+    match decrypted_word(reader, context, number, stored) {
         Ok(name) => push_word(alloc, text, name.bytes()),
         Err(_) => push_locked(text, stored),
     }

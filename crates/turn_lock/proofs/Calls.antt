@@ -17,18 +17,18 @@ use Rattle.call_history.proofs.Placing.{by-append, by-cons_own, by-cons_other, e
 use Rattle.call_history.proofs.Placing.{entries_by-more_other}
 use Rattle.turn_lock.specs.declared.view.View.{View}
 use Rattle.turn_lock.specs.Standing.{Standing, standing}
-use Rattle.turn_lock.specs.Turns.{TurnState, Kept}
-use Rattle.turn_lock.specs.Views.{Owns, Knows, all_left}
-use Rattle.turn_lock.specs.Steps.{Seated, HasTaken, tried, counted, counted_view, released}
+use Rattle.turn_lock.specs.Turns.{TurnState, TurnInvariant}
+use Rattle.turn_lock.specs.Views.{Owns, Knows, calls_left_of_views}
+use Rattle.turn_lock.specs.Steps.{Seated, HasTaken, try_step, counted, counted_view, release_step}
 use Rattle.turn_lock.proofs.Views.{at_written, only, each_set, alone, apart_set, left_set}
 
 -- the turn was taken of a seat that knew the same
 pub taken_from : {V C R : Type 0} (m n after : Seated V C R) → m ≡ n → HasTaken m after → HasTaken n after
 taken_from {V} {C} {R} m n after same taken = subst (λ (z : Seated V C R). HasTaken z after) same taken
 
-module _ {V C R : Type 0} (leads : History C R → V → Type 0) (numbers allowance : ℕ) where
+module _ {V C R : Type 0} (reaches : History C R → V → Type 0) (numbers allowance : ℕ) where
   abbrev Rule : TurnState V C R → Type 0
-  Rule = Kept leads numbers allowance
+  Rule = TurnInvariant reaches numbers allowance
 
   abbrev table : List ℕ → List (maybe.Option (Option (Standing V C R))) → List (View C R) → TurnState V C R
   table words homes views = record { words = words; homes = homes; views = views }
@@ -59,7 +59,7 @@ module _ {V C R : Type 0} (leads : History C R → V → Type 0) (numbers allowa
 
   -- the same calls are left in all where this seat's stay
   left_same : (vs : List (View C R)) (id : ℕ) (v w : View C R) → get_elem? vs id ≡ some v → w.left ≡ v.left
-      → all_left (set vs id w) ≡ all_left vs
+      → calls_left_of_views (set vs id w) ≡ calls_left_of_views vs
   left_same vs id v w at e = let sums = left_set vs id v w at in omega arith
 
   -- no other seat has the turn that this one has
@@ -74,7 +74,7 @@ module _ {V C R : Type 0} (leads : History C R → V → Type 0) (numbers allowa
   Tries s k id v n =
       (w : View C R) × (a : Act (Option (Standing V C R))) × Valid s.homes [] a
       × Rule (table (n ∷ length k.history ∷ []) (homes_after s.homes [] a) (set s.views id w))
-      × tried (v, []) k.turn (w, carried_after [] a)
+      × try_step (v, []) k.turn (w, carried_after [] a)
 
   takes_free : (s : TurnState V C R) (k : Rule s) (id : ℕ) (v : View C R) (n : ℕ) → v.who < v.high
       → get_elem? s.views id ≡ some v → n ≢ 0 → k.turn ≡ 0 → Tries s k id v n
@@ -108,7 +108,7 @@ module _ {V C R : Type 0} (leads : History C R → V → Type 0) (numbers allowa
         each = each_set (Knows numbers k.history n id) s.views id w
             record {
               begins = IsPrefix-refl k.history;
-              told_begins = f.told_begins;
+              known_begins = f.known_begins;
               holds_turn = λ _. (some_turn, refl, refl, some_number);
               below = f.below;
               own = f.own;
@@ -116,7 +116,7 @@ module _ {V C R : Type 0} (leads : History C R → V → Type 0) (numbers allowa
             (λ j u other at'. let g = k.each j u at' in
             record {
               begins = g.begins;
-              told_begins = g.told_begins;
+              known_begins = g.known_begins;
               holds_turn = λ t. absurd ((g.holds_turn t).0 z);
               below = g.below;
               own = g.own;
@@ -129,12 +129,12 @@ module _ {V C R : Type 0} (leads : History C R → V → Type 0) (numbers allowa
 
   -- the turn is taken where it is free, and else is as it was
   tries : (slots id : ℕ) (v : View C R) → v.who < v.high
-      → Allows Rule slots id (v, []) 0 (λ n. either (eqb n 0) 1 n) (tried (v, []))
+      → Allows Rule slots id (v, []) 0 (λ n. either (eqb n 0) 1 n) (try_step (v, []))
   tries slots id v some_number s k long at small =
       subst (λ (ws : List ℕ). (w : View C R) × (a : Act (Option (Standing V C R))) × Valid s.homes [] a
       × Rule (table (set ws 0 (either (eqb (get_or ws 0 0) 0) 1 (get_or ws 0 0))) (homes_after s.homes [] a)
       (set s.views id w))
-      × tried (v, []) (get_or ws 0 0) (w, carried_after [] a)) (sym k.words)
+      × try_step (v, []) (get_or ws 0 0) (w, carried_after [] a)) (sym k.words)
       (exchanged k.turn 0 1 (Tries s k id v) (takes_free s k id v 1 some_number at (λ e. absurd (omega arith)))
       (λ nz. (v, keeps, tt, unchanged s k id v at, ((λ z. absurd (nz z)), (λ _. refl)))))
 
@@ -153,7 +153,7 @@ module _ {V C R : Type 0} (leads : History C R → V → Type 0) (numbers allowa
         taken = λ _. k.taken nz;
         each = λ j u at'. let g = k.each j u at' in record {
           begins = g.begins;
-          told_begins = g.told_begins;
+          known_begins = g.known_begins;
           holds_turn = λ t. (some_turn, (g.holds_turn t).1, (g.holds_turn t).2, (g.holds_turn t).3);
           below = g.below;
           own = g.own;
@@ -166,11 +166,11 @@ module _ {V C R : Type 0} (leads : History C R → V → Type 0) (numbers allowa
 
   -- the turn is taken where it is free, and marked else
   marks : (slots id n : ℕ) (v : View C R) → n ≢ 0 → v.who < v.high
-      → Allows Rule slots id (v, []) 0 (λ _. n) (tried (v, []))
+      → Allows Rule slots id (v, []) 0 (λ _. n) (try_step (v, []))
   marks slots id n v some_turn some_number s k long at small =
       subst (λ (ws : List ℕ). (w : View C R) × (a : Act (Option (Standing V C R))) × Valid s.homes [] a
       × Rule (table (set ws 0 n) (homes_after s.homes [] a) (set s.views id w))
-      × tried (v, []) (get_or ws 0 0) (w, carried_after [] a)) (sym k.words)
+      × try_step (v, []) (get_or ws 0 0) (w, carried_after [] a)) (sym k.words)
       (⊎_elim (takes_free s k id v n some_number at some_turn)
       (λ nz. (v, keeps, tt, marked s k id v n some_turn nz at, ((λ z. absurd (nz z)), (λ _. refl))))
       (cases_eq k.turn 0))
@@ -213,7 +213,7 @@ module _ {V C R : Type 0} (leads : History C R → V → Type 0) (numbers allowa
       one_more : length longer ≡ length k.history + 1
       one_more = length-append k.history (e ∷ [])
 
-      left_less : all_left (set s.views id w) + 1 ≡ all_left s.views
+      left_less : calls_left_of_views (set s.views id w) + 1 ≡ calls_left_of_views s.views
       left_less = let sums = left_set s.views id v w at in omega arith
 
       -- the caller's own entries after the count, and all others'
@@ -265,14 +265,14 @@ module _ {V C R : Type 0} (leads : History C R → V → Type 0) (numbers allowa
               begins =
                   subst (λ (h : History C R). IsPrefix (h ++ e ∷ []) longer) (sym seen_all)
                   (IsPrefix-refl longer);
-              told_begins = IsPrefix-longer v.told k.history (e ∷ []) f.told_begins;
+              known_begins = IsPrefix-longer v.told k.history (e ∷ []) f.known_begins;
               holds_turn = λ _. (held.0, held.1, ap (λ (h : History C R). h ++ e ∷ []) seen_all, held.3);
               below = f.below;
               own = mine;
             }
             (λ j u other at'. let g = k.each j u at' in record {
               begins = IsPrefix-longer u.seen k.history (e ∷ []) g.begins;
-              told_begins = IsPrefix-longer u.told k.history (e ∷ []) g.told_begins;
+              known_begins = IsPrefix-longer u.told k.history (e ∷ []) g.known_begins;
               holds_turn = λ t. absurd (no_other s k id j v u at turn other at' t);
               below = g.below;
               own = λ caller owns. g.own caller owns ∙ theirs caller (not_mine j u other at' caller owns);
@@ -286,15 +286,15 @@ module _ {V C R : Type 0} (leads : History C R → V → Type 0) (numbers allowa
       }
 
   -- the value goes home, and the turn is free
-  releases : (id : ℕ) (v : View C R) (value : V) → v.turn ≡ true → leads v.seen value
+  releases : (id : ℕ) (v : View C R) (value : V) → v.turn ≡ true → reaches v.seen value
       → Allows Rule 1 id (v, (0, Some (standing value v.seen)) ∷ []) 0 (λ _. 0)
-      (released (v, (0, Some (standing value v.seen)) ∷ []))
-  releases id v value turn led s k long at small =
+      (release_step (v, (0, Some (standing value v.seen)) ∷ []))
+  releases id v value turn reached_by s k long at small =
       subst (λ (ws : List ℕ). (w : View C R) × (a : Act (Option (Standing V C R)))
       × Valid s.homes ((0, Some (standing value v.seen)) ∷ []) a
       × Rule (table (set ws 0 0) (homes_after s.homes ((0, Some (standing value v.seen)) ∷ []) a)
       (set s.views id w))
-      × released (v, (0, Some (standing value v.seen)) ∷ []) (get_or ws 0 0)
+      × release_step (v, (0, Some (standing value v.seen)) ∷ []) (get_or ws 0 0)
       (w, carried_after ((0, Some (standing value v.seen)) ∷ []) a)) (sym k.words)
       (w, gives, tt, kept, refl)
     where
@@ -315,13 +315,13 @@ module _ {V C R : Type 0} (leads : History C R → V → Type 0) (numbers allowa
           value,
           only s.homes (some (Some (standing value v.seen))) long
               ∙ ap (λ (h : History C R). some (Some (standing value h)) ∷ []) (f.holds_turn turn).2,
-          subst (λ (h : History C R). leads h value) (f.holds_turn turn).2 led,
+          subst (λ (h : History C R). reaches h value) (f.holds_turn turn).2 reached_by,
         );
         taken = λ nz. absurd (nz refl);
         each = each_set (Knows numbers k.history 0 0) s.views id w
             record {
               begins = f.begins;
-              told_begins = f.told_begins;
+              known_begins = f.known_begins;
               holds_turn = λ t. absurd (true≢false (sym t));
               below = f.below;
               own = f.own;
@@ -329,7 +329,7 @@ module _ {V C R : Type 0} (leads : History C R → V → Type 0) (numbers allowa
             (λ j u other at'. let g = k.each j u at' in
             record {
               begins = g.begins;
-              told_begins = g.told_begins;
+              known_begins = g.known_begins;
               holds_turn = λ t. absurd (no_other s k id j v u at turn other at' t);
               below = g.below;
               own = g.own;
@@ -342,15 +342,15 @@ module _ {V C R : Type 0} (leads : History C R → V → Type 0) (numbers allowa
 
   -- the same at a seat that is known by equations
   pub tries_at : (slots id : ℕ) (m : Seated V C R) → m.1 ≡ [] → m.0.who < m.0.high
-      → Allows Rule slots id m 0 (λ n. either (eqb n 0) 1 n) (tried m)
+      → Allows Rule slots id m 0 (λ n. either (eqb n 0) 1 n) (try_step m)
   tries_at slots id m bare wide =
-      subst (λ (z : Seated V C R). Allows Rule slots id z 0 (λ n. either (eqb n 0) 1 n) (tried z))
+      subst (λ (z : Seated V C R). Allows Rule slots id z 0 (λ n. either (eqb n 0) 1 n) (try_step z))
       (λ i. (m.0, sym bare i)) (tries slots id m.0 wide)
 
   pub marks_at : (slots id n : ℕ) (m : Seated V C R) → m.1 ≡ [] → m.0.who < m.0.high → n ≢ 0
-      → Allows Rule slots id m 0 (λ _. n) (tried m)
+      → Allows Rule slots id m 0 (λ _. n) (try_step m)
   marks_at slots id n m bare wide some_turn =
-      subst (λ (z : Seated V C R). Allows Rule slots id z 0 (λ _. n) (tried z))
+      subst (λ (z : Seated V C R). Allows Rule slots id z 0 (λ _. n) (try_step z))
       (λ i. (m.0, sym bare i)) (marks slots id n m.0 some_turn wide)
 
   pub counts_at : (slots id : ℕ) (m : Seated V C R) (said : History C R) (e : Entry C R) → said ≡ e ∷ []
@@ -361,9 +361,9 @@ module _ {V C R : Type 0} (leads : History C R → V → Type 0) (numbers allowa
       (counts slots id m.0 m.1 e turn own some_left)
 
   pub releases_at : (slots id : ℕ) (m : Seated V C R) (value : V) → slots ≡ 1 → m.0.turn ≡ true
-      → leads m.0.seen value
-      → m.1 ≡ (0, Some (standing value m.0.seen)) ∷ [] → Allows Rule slots id m 0 (λ _. 0) (released m)
-  releases_at slots id m value one turn led carried =
-      subst (λ (n : ℕ). Allows Rule n id m 0 (λ _. 0) (released m)) (sym one)
-      (subst (λ (z : Seated V C R). Allows Rule 1 id z 0 (λ _. 0) (released z))
-      (λ i. (m.0, sym carried i)) (releases id m.0 value turn led))
+      → reaches m.0.seen value
+      → m.1 ≡ (0, Some (standing value m.0.seen)) ∷ [] → Allows Rule slots id m 0 (λ _. 0) (release_step m)
+  releases_at slots id m value one turn reached_by carried =
+      subst (λ (n : ℕ). Allows Rule n id m 0 (λ _. 0) (release_step m)) (sym one)
+      (subst (λ (z : Seated V C R). Allows Rule 1 id z 0 (λ _. 0) (release_step z))
+      (λ i. (m.0, sym carried i)) (releases id m.0 value turn reached_by))

@@ -11,7 +11,7 @@ use Rattle.call_history.specs.Prefix.{IsPrefix}
 use Rattle.call_history.specs.Entries.{History, by, entries_by}
 use Rattle.turn_lock.specs.declared.view.View.{View}
 use Rattle.turn_lock.specs.Standing.{Standing, standing}
-use Rattle.turn_lock.specs.Turns.{TurnState, Kept}
+use Rattle.turn_lock.specs.Turns.{TurnState, TurnInvariant}
 use Rattle.turn_lock.specs.Views.{Owns, Knows}
 use Rattle.turn_lock.proofs.Shares.{by_not_own, by_past}
 use Rattle.turn_lock.proofs.Views.{at_same}
@@ -19,9 +19,9 @@ use Rattle.turn_lock.proofs.Views.{at_same}
 pub Some-injective : {A : Type 0} (a b : A) → Some a ≡ Some b → a ≡ b
 Some-injective a b e = ap (λ o. unwrap_or o a) e
 
-module _ {V C R : Type 0} (leads : History C R → V → Type 0) (numbers allowance : ℕ) where
+module _ {V C R : Type 0} (reaches : History C R → V → Type 0) (numbers allowance : ℕ) where
   abbrev Rule : TurnState V C R → Type 0
-  Rule = Kept leads numbers allowance
+  Rule = TurnInvariant reaches numbers allowance
 
   -- the history that reaches the value at home
   pub record Left (id : ℕ) (v : View C R) (slots : List (Option (Standing V C R))) : Type 0 where

@@ -12,18 +12,18 @@ use Rattle.call_history.proofs.Placing.{by-append}
 use Rattle.turn_lock.specs.declared.view.View.{View}
 use Rattle.turn_lock.specs.PassParts.{under, over}
 use Rattle.turn_lock.specs.Standing.{Standing}
-use Rattle.turn_lock.specs.Turns.{TurnState, Kept}
+use Rattle.turn_lock.specs.Turns.{TurnState, TurnInvariant}
 use Rattle.turn_lock.specs.Views.{Owns, Knows, spent_view}
-use Rattle.turn_lock.specs.Steps.{Seated, looked, lower_view, upper_view, joined_view}
+use Rattle.turn_lock.specs.Steps.{Seated, look_step, lower_view, upper_view, joined_view}
 use Rattle.turn_lock.proofs.Calls.{unchanged}
 use Rattle.turn_lock.proofs.Shares.{by-under, by-over, by_not_own, by_past, by_mine, length-mine}
 use Rattle.turn_lock.proofs.Shares.{IsPrefix-longer_both, IsPrefix-shorter_both}
 use Rattle.turn_lock.proofs.Views.{at_same, each_set, each_new, alone, Apart, Alone, set_swap, apart_set}
 use Rattle.turn_lock.proofs.Views.{apart_new, left_set, left_new, left_at}
 
-module _ {V C R : Type 0} (leads : History C R → V → Type 0) (numbers allowance : ℕ) where
+module _ {V C R : Type 0} (reaches : History C R → V → Type 0) (numbers allowance : ℕ) where
   abbrev Rule : TurnState V C R → Type 0
-  Rule = Kept leads numbers allowance
+  Rule = TurnInvariant reaches numbers allowance
 
   -- the seat that has the turn is not this one, and still has it if this one's view has changed
   still_taken : (s : TurnState V C R) (k : Rule s) (id : ℕ) (v w : View C R) → get_elem? s.views id ≡ some v
@@ -50,7 +50,7 @@ module _ {V C R : Type 0} (leads : History C R → V → Type 0) (numbers allowa
     each = each_new (Knows numbers k.history k.turn k.holder) changed upper
         (λ j. record {
           begins = f.begins;
-          told_begins = f.told_begins;
+          known_begins = f.known_begins;
           holds_turn = λ t. absurd (true≢false (sym t ∙ idle));
           below = f.below;
           own = upper_own;
@@ -58,7 +58,7 @@ module _ {V C R : Type 0} (leads : History C R → V → Type 0) (numbers allowa
         (each_set (Knows numbers k.history k.turn k.holder) s.views id lower
         record {
           begins = f.begins;
-          told_begins = f.told_begins;
+          known_begins = f.known_begins;
           holds_turn = λ t. absurd (true≢false (sym t ∙ idle));
           below = let most = f.below in
               omega arith;
@@ -128,7 +128,7 @@ module _ {V C R : Type 0} (leads : History C R → V → Type 0) (numbers allowa
     each = each_set fits changed other spent_view
         record {
           begins = IsPrefix-nil k.history;
-          told_begins = IsPrefix-nil k.history;
+          known_begins = IsPrefix-nil k.history;
           holds_turn = λ t. absurd (true≢false (sym t));
           below = omega arith;
           own = λ caller owns.
@@ -137,7 +137,7 @@ module _ {V C R : Type 0} (leads : History C R → V → Type 0) (numbers allowa
         (λ j u _ at. each_set fits s.views id both
         record {
           begins = IsPrefix-longer_both v.seen w.seen k.history f.begins g.begins;
-          told_begins = IsPrefix-shorter_both v.seen w.seen k.history f.begins g.begins;
+          known_begins = IsPrefix-shorter_both v.seen w.seen k.history f.begins g.begins;
           holds_turn = λ t. absurd (true≢false (sym t ∙ idle));
           below = g.below;
           own = both_own;
@@ -205,7 +205,7 @@ module _ {V C R : Type 0} (leads : History C R → V → Type 0) (numbers allowa
 
   looks : (slots id : ℕ) (v : View C R) → v.who < v.high → by v.who v.mine ≡ v.mine
       → length v.told ≤ length v.seen
-      → Allows Rule slots id (v, []) 0 (λ n. n) (looked (v, []))
+      → Allows Rule slots id (v, []) 0 (λ n. n) (look_step (v, []))
   looks slots id v wide own short s k long at small =
       subst (λ (ws : List ℕ). (x : View C R) × (a : Rattle.atomic_table.specs.Table.Act
       (Option (Standing V C R))) × Rattle.atomic_table.specs.Table.Valid s.homes [] a
@@ -214,12 +214,12 @@ module _ {V C R : Type 0} (leads : History C R → V → Type 0) (numbers allowa
         homes = Rattle.atomic_table.specs.Table.homes_after s.homes [] a;
         views = set s.views id x;
       }
-      × looked (v, []) (get_or ws 0 0) (x, Rattle.atomic_table.specs.Table.carried_after [] a)) (sym k.words) (
+      × look_step (v, []) (get_or ws 0 0) (x, Rattle.atomic_table.specs.Table.carried_after [] a)) (sym k.words) (
         v,
         keeps,
         tt,
-        unchanged leads numbers allowance s k id v at,
-        (refl, IsPrefix_shorter v.told v.seen k.history f.told_begins f.begins short, fewer),
+        unchanged reaches numbers allowance s k id v at,
+        (refl, IsPrefix_shorter v.told v.seen k.history f.known_begins f.begins short, fewer),
       )
     where
       f : Knows numbers k.history k.turn k.holder id v
@@ -231,7 +231,7 @@ module _ {V C R : Type 0} (leads : History C R → V → Type 0) (numbers allowa
 
   pub looks_at : (slots id : ℕ) (m : Seated V C R) → m.1 ≡ [] → m.0.who < m.0.high
       → by m.0.who m.0.mine ≡ m.0.mine → length m.0.told ≤ length m.0.seen
-      → Allows Rule slots id m 0 (λ n. n) (looked m)
+      → Allows Rule slots id m 0 (λ n. n) (look_step m)
   looks_at slots id m bare wide own short =
-      subst (λ (z : Seated V C R). Allows Rule slots id z 0 (λ n. n) (looked z)) (λ i. (m.0, sym bare i))
+      subst (λ (z : Seated V C R). Allows Rule slots id z 0 (λ n. n) (look_step z)) (λ i. (m.0, sym bare i))
       (looks slots id m.0 wide own short)

@@ -6,7 +6,7 @@ use Rattle.std.proofs.lemmas.Bool.{cases_Bool, cond_both, eqb-true, lt-ltb, le-l
 use Rattle.std.proofs.lemmas.Bool.{leb-false}
 use Rattle.std.proofs.lemmas.List.Filters.{length-filter_both}
 use Rattle.call_history.specs.Prefix.{IsPrefix}
-use Rattle.call_history.specs.Entries.{History, PlacedList, by, numbered, entries_by}
+use Rattle.call_history.specs.Entries.{History, PlacedList, by, entries_with_places, entries_by}
 use Rattle.call_history.proofs.Prefixes.{IsPrefix-refl, IsPrefix_shorter}
 use Rattle.call_history.proofs.Placing.{by-append, by-by_other, length-numbered}
 use Rattle.turn_lock.specs.PassParts.{under, over, longer}
@@ -72,7 +72,7 @@ module _ {C R : Type 0} where
       ∙ ap (λ (l : PlacedList C R). by who past ++ l) own)) ∙ ap length all in
       let sum = length-append (by who past) mine in
       let most = length-filter_both (λ x. eqb x.1.who who) (λ x. not (eqb x.1.who who)) (λ _. refl)
-      (numbered 0 h) in
+      (entries_with_places 0 h) in
       let long = length-numbered 0 h in
       omega arith
 

@@ -3,19 +3,19 @@ use Rattle.std.proofs.Common.{◌≡◌, ◌≢◌, ℕ, zero, suc, ◌≤◌, [
 use mathlib.Core.Option.{some, some-injective, some-ne-none}
 use lib.ListN.{get_elem?}
 use Rattle.atomic_table.specs.Table.{opening}
-use Rattle.call_history.specs.declared.TheConstants.{MOST_PLACES}
+use Rattle.call_history.specs.declared.TheConstants.{MAX_PLACES}
 use Rattle.call_history.specs.Entries.{History}
 use Rattle.call_history.proofs.Prefixes.{IsPrefix-refl}
 use Rattle.turn_lock.specs.declared.view.View.{View}
 use Rattle.turn_lock.specs.Standing.{standing}
-use Rattle.turn_lock.specs.Turns.{Kept}
+use Rattle.turn_lock.specs.Turns.{TurnInvariant}
 use Rattle.turn_lock.specs.Views.{Knows, AreApart, first_view}
 
-module _ {V C R : Type 0} (leads : History C R → V → Type 0) (numbers allowance : ℕ) where
+module _ {V C R : Type 0} (reaches : History C R → V → Type 0) (numbers allowance : ℕ) where
   knows : Knows numbers [] 0 0 0 (first_view {C = C} {R = R} numbers allowance)
   knows = record {
     begins = IsPrefix-refl [];
-    told_begins = IsPrefix-refl [];
+    known_begins = IsPrefix-refl [];
     holds_turn = λ e. absurd (true≢false (sym e));
     below = le_refl numbers;
     own = λ _ _. refl;
@@ -26,15 +26,15 @@ module _ {V C R : Type 0} (leads : History C R → V → Type 0) (numbers allowa
   each zero v e = subst (λ w. Knows numbers [] 0 0 0 w) (some-injective _ v e) knows
   each (suc j) v e = absurd (some-ne-none v (sym e))
 
-  pub starts_kept : (value : V) → leads [] value → allowance ≤ MOST_PLACES
-      → Kept leads numbers allowance
+  pub starts_kept : (value : V) → reaches [] value → allowance ≤ MAX_PLACES
+      → TurnInvariant reaches numbers allowance
       (opening (0 ∷ 0 ∷ []) (Some (standing value []) ∷ []) (first_view numbers allowance))
-  starts_kept value led small = record {
+  starts_kept value reached_by small = record {
     history = [];
     turn = 0;
     holder = 0;
     words = refl;
-    free = λ _. (value, refl, led);
+    free = λ _. (value, refl, reached_by);
     taken = λ other. absurd (other refl);
     each = each;
     apart = apart;

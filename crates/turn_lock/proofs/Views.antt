@@ -6,7 +6,7 @@ use mathlib.Core.Option.{some, some-injective, some-ne-none}
 use lib.ListN.{get_elem?}
 use Rattle.atomic_table.proofs.Lists.{at_set, set_here, at_snoc}
 use Rattle.turn_lock.specs.declared.view.View.{View}
-use Rattle.turn_lock.specs.Views.{Owns, all_left}
+use Rattle.turn_lock.specs.Views.{Owns, calls_left_of_views}
 
 module _ {A : Type 0} where
   pub within : (l : List A) (i : ℕ) (a : A) → get_elem? l i ≡ some a → i < length l
@@ -109,16 +109,16 @@ module _ {C R : Type 0} where
 
   -- the calls left of all, after one seat's have changed
   pub left_set : (vs : List (View C R)) (id : ℕ) (v w : View C R) → get_elem? vs id ≡ some v
-      → all_left (set vs id w) + v.left ≡ all_left vs + w.left
+      → calls_left_of_views (set vs id w) + v.left ≡ calls_left_of_views vs + w.left
   left_set vs id v w at =
-      ap (λ (u : View C R). all_left (set vs id w) + u.left) (sym (read vs id v v at))
+      ap (λ (u : View C R). calls_left_of_views (set vs id w) + u.left) (sym (read vs id v v at))
       ∙ sum_by-set (λ u. u.left) vs id w v (within vs id v at)
 
-  pub left_new : (vs : List (View C R)) (w : View C R) → all_left (vs ++ w ∷ []) ≡ all_left vs + w.left
-  left_new vs w = sum_by-append (λ u. u.left) vs (w ∷ []) ∙ ap (λ n. all_left vs + n) (zero-add w.left)
+  pub left_new : (vs : List (View C R)) (w : View C R) → calls_left_of_views (vs ++ w ∷ []) ≡ calls_left_of_views vs + w.left
+  left_new vs w = sum_by-append (λ u. u.left) vs (w ∷ []) ∙ ap (λ n. calls_left_of_views vs + n) (zero-add w.left)
 
   -- a seat has no more calls left than all have
   pub left_at : (vs : List (View C R)) (id : ℕ) (v : View C R) → get_elem? vs id ≡ some v
-      → v.left ≤ all_left vs
+      → v.left ≤ calls_left_of_views vs
   left_at vs id v at =
       let none : View C R = record v { left = 0 } in let sums = left_set vs id v none at in omega arith

@@ -11,10 +11,10 @@ use Rattle.turn_lock.specs.Views.{Owns}
 
 -- The value is at home and is reached by this history, which is lawful and as long as the count. The
 -- history begins with what each seat has seen, and has of each caller the entries that its seat has.
-pub record IsHome {V C R : Type 0} (lawful : History C R → Type 0) (leads : History C R → V → Type 0)
+pub record IsHome {V C R : Type 0} (lawful : History C R → Type 0) (reaches : History C R → V → Type 0)
     (s : TurnState V C R) (held : Standing V C R) : Type 0 where
   pub home : s.homes ≡ some (Some held) ∷ []
-  pub stands : leads held.history held.value
+  pub is_reached : reaches held.history held.value
   pub right : lawful held.history
   pub counted : slice_index s.words 1 ≡ length held.history
   pub seen : (j : ℕ) (v : View C R) → get_elem? s.views j ≡ some v → IsPrefix v.seen held.history

@@ -2,7 +2,7 @@
 use Rattle.std.specs.Prelude.{◌≡◌, ℕ, ◌<◌, ◌-◌, [], ◌∷◌, ◌++◌, length}
 use Rattle.atomic_table.specs.Seated.{TableId}
 use Rattle.call_history.specs.declared.entry.Entry.{Entry}
-use Rattle.call_history.specs.Entries.{History, PlacedList, by, merged}
+use Rattle.call_history.specs.Entries.{History, PlacedList, by, history_in_order}
 use Rattle.call_history.specs.Prefix.{IsPrefix}
 
 -- a shared machine: which one it is, and what it was started with
@@ -30,7 +30,7 @@ module _ {C R : Type 0} where
 
   -- the history that all entries of a pass make, in order of place
   abbrev pub merged_entries : PassView C R → History C R
-  merged_entries pass = merged (pass.past ++ pass.mine)
+  merged_entries pass = history_in_order (pass.past ++ pass.mine)
 
   abbrev pub first_pass : TableId → ℕ → ℕ → PassView C R
   first_pass table numbers allowance =

@@ -1,7 +1,7 @@
 -- What a pass stores, beside what its seat knows.
 use Rattle.std.specs.Prelude.{◌≡◌, ℕ, ◌+◌, ◌<◌, ◌≤◌, false, [], length}
 use Rattle.atomic_table.specs.Seated.{TableId}
-use Rattle.call_history.specs.declared.TheConstants.{MOST_PLACES}
+use Rattle.call_history.specs.declared.TheConstants.{MAX_PLACES}
 use Rattle.call_history.specs.Entries.{by}
 use Rattle.turn_lock.specs.declared.view.View.{View}
 use Rattle.turn_lock.specs.Passes.{PassView}
@@ -30,6 +30,6 @@ module _ {C R : Type 0} where
     pub left_is : left ≡ me.0.left
     pub made_is : made ≡ length me.0.mine
     pub some_number : who < high
-    pub small : left + made ≤ MOST_PLACES
+    pub small : left + made ≤ MAX_PLACES
     pub mine_own : by who me.0.mine ≡ me.0.mine
     pub past_own : (caller : ℕ) → ¬ Owns me.0 caller → by caller me.0.past ≡ []

@@ -2,8 +2,8 @@
 use Rattle.std.specs.Prelude.{◌≡◌, ◌≢◌, ℕ, ◌+◌, ◌-◌, ◌≤◌, true, false, [], ◌∷◌}
 use Rattle.std.specs.Prelude.{◌++◌, length, if◌then◌else◌, nat_le, Option, Some}
 use Rattle.atomic_table.specs.Table.{Me}
-use Rattle.call_history.specs.declared.TheConstants.{MOST_PLACES}
-use Rattle.call_history.specs.Entries.{History, numbered, by, entries_by}
+use Rattle.call_history.specs.declared.TheConstants.{MAX_PLACES}
+use Rattle.call_history.specs.Entries.{History, entries_with_places, by, entries_by}
 use Rattle.call_history.specs.Prefix.{IsPrefix}
 use Rattle.turn_lock.specs.declared.view.View.{View}
 use Rattle.turn_lock.specs.Standing.{Standing}
@@ -21,14 +21,14 @@ module _ {C R : Type 0} where
       × (m' ≡ (record m.0 { turn = true; seen = held.history }, (0, Some held) ∷ []))
 
   -- the turn is taken, or it was not free
-  abbrev pub tried : {V : Type 0} → Seated V C R → ℕ → Seated V C R → Type 0
-  tried m found m' = (found ≡ 0 → HasTaken m m') × (found ≢ 0 → m' ≡ m)
+  abbrev pub try_step : {V : Type 0} → Seated V C R → ℕ → Seated V C R → Type 0
+  try_step m found m' = (found ≡ 0 → HasTaken m m') × (found ≢ 0 → m' ≡ m)
 
   abbrev pub counted_view : View C R → History C R → View C R
   counted_view v said = record v {
     left = v.left - 1;
     seen = v.seen ++ said;
-    mine = v.mine ++ numbered (length v.seen) said;
+    mine = v.mine ++ entries_with_places (length v.seen) said;
   }
 
   -- the entry is counted: its place is the number of entries before it, and the caller's entries are
@@ -39,8 +39,8 @@ module _ {C R : Type 0} where
       × (by m'.0.who (m'.0.past ++ m'.0.mine) ≡ entries_by m'.0.who m'.0.seen)
 
   -- the value goes home and the turn is free
-  abbrev pub released : {V : Type 0} → Seated V C R → ℕ → Seated V C R → Type 0
-  released m stored m' = m' ≡ (record m.0 { turn = false }, [])
+  abbrev pub release_step : {V : Type 0} → Seated V C R → ℕ → Seated V C R → Type 0
+  release_step m stored m' = m' ≡ (record m.0 { turn = false }, [])
 
   abbrev pub lower_view : ℕ → ℕ → View C R → View C R
   lower_view at give v = record v { high = at; left = v.left - give; past = under at v.past }
@@ -61,5 +61,5 @@ module _ {C R : Type 0} where
   }
 
   -- nothing changes; of two views that were joined, the shorter list begins the longer, and the calls fit
-  abbrev pub looked : {V : Type 0} → Seated V C R → ℕ → Seated V C R → Type 0
-  looked m found m' = (m' ≡ m) × IsPrefix m.0.told m.0.seen × (m.0.left + length m.0.mine ≤ MOST_PLACES)
+  abbrev pub look_step : {V : Type 0} → Seated V C R → ℕ → Seated V C R → Type 0
+  look_step m found m' = (m' ≡ m) × IsPrefix m.0.told m.0.seen × (m.0.left + length m.0.mine ≤ MAX_PLACES)

@@ -12,13 +12,13 @@ module _ {C R : Type 0} where
   -- what seat j knows is so, if the holder is the seat that has the turn, if any has it
   pub record Knows (numbers : ℕ) (history : History C R) (turn holder j : ℕ) (v : View C R) : Type 0 where
     pub begins : IsPrefix v.seen history
-    pub told_begins : IsPrefix v.told history
+    pub known_begins : IsPrefix v.told history
     pub holds_turn : v.turn ≡ true → (turn ≢ 0) × (j ≡ holder) × (v.seen ≡ history) × (v.who < v.high)
     pub below : v.high ≤ numbers
     pub own : (caller : ℕ) → Owns v caller → by caller (v.past ++ v.mine) ≡ entries_by caller history
 
-  abbrev pub all_left : List (View C R) → ℕ
-  all_left views = sum_by (λ v. v.left) views
+  abbrev pub calls_left_of_views : List (View C R) → ℕ
+  calls_left_of_views views = sum_by (λ v. v.left) views
 
   -- no number is owned by both
   abbrev pub AreApart : View C R → View C R → Type 0

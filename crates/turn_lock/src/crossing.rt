@@ -1,6 +1,6 @@
 //! What may cross threads: each of the crate's types, if the machine may.
 
-use crate::machine::{At, Machine, Worn};
+use crate::machine::{At, Machine, PassExhausted};
 use crate::pass::Pass;
 use crate::shared::Shared;
 
@@ -16,6 +16,6 @@ fn machines_cross<M: Machine + Send>(shared: &Shared<M>, pass: &Pass<M>) {
     may_be_sent(pass);
 }
 
-fn answers_cross<R: Send>(answer: &Result<At<R>, Worn>) {
+fn answers_cross<R: Send>(answer: &Result<At<R>, PassExhausted>) {
     may_be_sent(answer);
 }

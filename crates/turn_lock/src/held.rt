@@ -27,15 +27,15 @@ impl<M: Machine> Model for Held<M> {
 
     ghost view = { λ h. standing h.both.value.value h.both.value.recorder };
 
-    ghost invariant = { λ h. M.leads h.both.value.recorder h.both.value.value };
+    ghost invariant = { λ h. M.reaches h.both.value.recorder h.both.value.value };
 }
 
 impl<M: Machine> Held<M> {
     // Returns a value that is reached after no call. If out of memory, returns the value in the error.
     pub(crate) fn new(alloc: Global, value: M) -> Result<Held<M>, AllocFailed<M>>
-        requires leads { M.leads [] value }
+        requires reaches { M.reaches [] value }
         ensures held { IfOk result (λ held. held ≡ standing value []) }
-        ensures given_back { IfErr result (λ failed. failed.value ≡ value) }
+        ensures returned_turn { IfErr result (λ failed. failed.value ≡ value) }
     {
         let Ok(recorder) = Recorder::new(alloc) else {
             return Err(AllocFailed { value });
@@ -48,7 +48,7 @@ impl<M: Machine> Held<M> {
 
     pub(crate) fn into_value(self) -> M
         ensures value { result ≡ self.value }
-        ensures leads { M.leads self.history result }
+        ensures reaches { M.reaches self.history result }
     {
         Box::into_inner(self.both).value
     }

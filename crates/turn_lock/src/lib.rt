@@ -15,6 +15,6 @@ mod steps;
 mod view;
 
 pub use laws::free_value_stands_after_its_history;
-pub use machine::{At, Machine, Worn};
+pub use machine::{At, Machine, PassExhausted};
 pub use pass::Pass;
 pub use shared::Shared;

@@ -9,31 +9,31 @@ use thiserror::Error;
 pub trait Machine: Drop {
     type Call: Drop;
 
-    type Lent;
+    type Pending;
 
     type Reply;
 
     // The calls that may be made.
     ghost fits: { Self.Call → Type 0 };
     // What `finish` gives.
-    ghost reply: { Self.Lent → Self.Reply };
+    ghost reply: { Self.Pending → Self.Reply };
     // The histories that are right.
     ghost lawful: { History Self.Call Self.Reply → Type 0 };
     // This history may reach the value.
-    ghost leads: { History Self.Call Self.Reply → Self → Type 0 };
+    ghost reaches: { History Self.Call Self.Reply → Self → Type 0 };
 
     /// Answers the call of the caller with the number `who`. The memory that the reply needs is
     /// taken here.
-    fn begin(&mut self, who: u32, call: &Self::Call) -> Self::Lent
+    fn begin(&mut self, who: u32, call: &Self::Call) -> Self::Pending
         requires { fits call.now }
-        ensures { (history : History Self.Call Self.Reply) → leads history self.old
-            → leads (history ++ entry who call.now (reply result) ∷ []) self.new };
+        ensures { (history : History Self.Call Self.Reply) → reaches history self.old
+            → reaches (history ++ entry who call.now (reply result) ∷ []) self.new };
 
     /// Gives the reply, when the machine may already be at work for another caller.
-    fn finish(lent: Self::Lent) -> Self::Reply
+    fn finish(lent: Self::Pending) -> Self::Reply
         ensures { result ≡ reply lent };
 
-    ghost leads_lawful: { (history : History Self.Call Self.Reply) (value : Self) → leads history value
+    ghost reaches_lawful: { (history : History Self.Call Self.Reply) (value : Self) → reaches history value
         → lawful history };
 }
 
@@ -47,6 +47,6 @@ pub struct At<R> {
 /// A pass has no calls left. It has made this many.
 #[derive(Debug, Drop, Error)]
 #[error("no calls are left after {made}")]
-pub struct Worn {
+pub struct PassExhausted {
     pub made: u64,
 }

@@ -1,6 +1,6 @@
 //! The right to call a shared machine under some caller numbers.
 ghost use Rattle.std.specs.Prelude.{◌≡◌, ◌+◌, ◌<◌, ◌≤◌, length};
-ghost use Rattle.call_history.specs.declared.TheConstants.{MOST_PLACES};
+ghost use Rattle.call_history.specs.declared.TheConstants.{MAX_PLACES};
 ghost use Rattle.call_history.specs.Entries.{by};
 
 use crate::held::Held;
@@ -52,7 +52,7 @@ impl<M: Machine> Pass<M> {
     /// How many calls are left. Together with those made they are at most 2^40.
     pub fn left(&self) -> u64
         ensures value { result ≡ self.now.left }
-        ensures small { self.now.left + length self.now.mine ≤ MOST_PLACES }
+        ensures small { self.now.left + length self.now.mine ≤ MAX_PLACES }
     {
         self.left
     }

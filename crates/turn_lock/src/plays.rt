@@ -1,12 +1,12 @@
 //! What each atomic step on the table returns to the seat that makes it.
 ghost use Rattle.std.specs.Prelude.{ℕ};
 ghost use Rattle.turn_lock.specs.Views.{spent_view};
-ghost use Rattle.turn_lock.specs.Steps.{tried, counted, released, looked};
+ghost use Rattle.turn_lock.specs.Steps.{try_step, counted, release_step, look_step};
 ghost use Rattle.turn_lock.specs.Steps.{lower_view, upper_view, joined_view};
 
 use crate::held::Held;
 use crate::machine::Machine;
-use crate::recorder::Said;
+use crate::recorder::RecordsSteps;
 use crate::view::View;
 use atomic_table::{Join, Play, Split};
 use std::marker::{Brand, PhantomData};
@@ -15,7 +15,7 @@ use std::marker::{Brand, PhantomData};
 pub(crate) struct Try;
 
 impl<M: Machine> Play<Option<Held<M>>, View<M::Call, M::Reply>> for Try {
-    ghost then = { λ _. tried };
+    ghost then = { λ _. try_step };
 }
 
 /// The step that gives a call its place.
@@ -23,7 +23,7 @@ pub(crate) struct Count<K> {
     said: PhantomData<K>,
 }
 
-impl<M: Machine, K: Said<M::Call, M::Reply>> Play<Option<Held<M>>, View<M::Call, M::Reply>>
+impl<M: Machine, K: RecordsSteps<M::Call, M::Reply>> Play<Option<Held<M>>, View<M::Call, M::Reply>>
     for Count<K> {
     ghost then = { λ _. counted K.said };
 }
@@ -32,7 +32,7 @@ impl<M: Machine, K: Said<M::Call, M::Reply>> Play<Option<Held<M>>, View<M::Call,
 pub(crate) struct Release;
 
 impl<M: Machine> Play<Option<Held<M>>, View<M::Call, M::Reply>> for Release {
-    ghost then = { λ _. released };
+    ghost then = { λ _. release_step };
 }
 
 /// The number at which a pass is split, and how many calls the new one gets; the proof of the caller names
@@ -72,5 +72,5 @@ impl<C, R> Join<View<C, R>> for Glue {
 pub(crate) struct Look;
 
 impl<M: Machine> Play<Option<Held<M>>, View<M::Call, M::Reply>> for Look {
-    ghost then = { λ _. looked };
+    ghost then = { λ _. look_step };
 }

@@ -9,11 +9,11 @@ use std::collections::LinkedList;
 use std::marker::{Model, PhantomData};
 
 /// The entries that a step on the count adds, which the proof of its caller names.
-pub(crate) trait Said<C, R> {
+pub(crate) trait RecordsSteps<C, R> {
     ghost said: { History C R };
 }
 
-impl<C, R> Said<C, R> for std::marker::Brand {
+impl<C, R> RecordsSteps<C, R> for std::marker::Brand {
     ghost said = { [] };
 }
 
@@ -29,7 +29,7 @@ struct Adds<K> {
     said: PhantomData<K>,
 }
 
-impl<C, R, K: Said<C, R>> Play<(), LinkedList<Entry<C, R>>> for Adds<K> {
+impl<C, R, K: RecordsSteps<C, R>> Play<(), LinkedList<Entry<C, R>>> for Adds<K> {
     ghost then = { λ _ me _ after. after ≡ (me.0 ++ K.said, me.1) };
 }
 
@@ -58,7 +58,7 @@ impl<C, R> Recorder<C, R> {
     }
 
     // Adds the entries of `K`.
-    pub(crate) fn add<K: Said<C, R>>(&mut self)
+    pub(crate) fn add<K: RecordsSteps<C, R>>(&mut self)
         ensures { self.new ≡ self.old ++ K.said }
     {
         let Recorder { table, seat } = self;

@@ -1,13 +1,13 @@
 //! A machine shared by threads.
 ghost use Rattle.std.specs.Prelude.{◌≡◌, ℕ, ◌<◌, ◌≤◌, [], ◌++◌, length, OnOk, OnErr, IfOk, IfErr};
-ghost use Rattle.call_history.specs.declared.TheConstants.{MOST_PLACES};
+ghost use Rattle.call_history.specs.declared.TheConstants.{MAX_PLACES};
 ghost use Rattle.call_history.specs.Entries.{by, entry, entries_by, IsComplete};
 ghost use Rattle.call_history.specs.Prefix.{IsPrefix};
 ghost use Rattle.turn_lock.specs.Passes.{past_of, merged_entries, first_pass, IsMadeAt};
 ghost use Rattle.turn_lock.specs.PassParts.{lower_part, upper_part, with_other};
 
 use crate::held::Held;
-use crate::machine::{At, Machine, Worn};
+use crate::machine::{At, Machine, PassExhausted};
 use crate::pass::Pass;
 use crate::steps::{cut, enter, give_back, merge, take_turn};
 use crate::view::{FREE, Limits, Turn, View};
@@ -48,11 +48,11 @@ impl<M: Machine> Shared<M> {
         allowance: u64,
     ) -> Result<(Shared<M>, Pass<M>), AllocFailed<M>>
         requires some_number { 0 < numbers }
-        requires allowance { allowance ≤ MOST_PLACES }
-        requires leads { M.leads [] value }
+        requires allowance { allowance ≤ MAX_PLACES }
+        requires reaches { M.reaches [] value }
         ensures shared { IfOk result (λ r. (r.0.numbers ≡ numbers) × (r.0.allowance ≡ allowance)) }
         ensures pass { IfOk result (λ r. r.1 ≡ first_pass r.0.table numbers allowance) }
-        ensures given_back { IfErr result (λ failed. failed.value ≡ value) }
+        ensures returned_turn { IfErr result (λ failed. failed.value ≡ value) }
     {
         let Ok(mut slots) = Vec::with_capacity(alloc, 1) else {
             return Err(AllocFailed { value });
@@ -79,14 +79,14 @@ impl<M: Machine> Shared<M> {
     }
 
     /// Makes a call, which is borrowed, under the pass's number: waits for the turn, and returns the reply
-    /// and its place in the history. Returns `Worn` exactly when the pass has no calls left, and then
+    /// and its place in the history. Returns `PassExhausted` exactly when the pass has no calls left, and then
     /// nothing has changed.
     pub fn call<W: Wait>(
         &self,
         rt: &W,
         pass: &mut Pass<M>,
         call: &M::Call,
-    ) -> Result<At<M::Reply>, Worn>
+    ) -> Result<At<M::Reply>, PassExhausted>
         requires belongs { pass.old.table ≡ self.now.table }
         requires fits { M.fits call.now }
         ensures at { IfOk result (λ r.
@@ -98,7 +98,7 @@ impl<M: Machine> Shared<M> {
             (pass.old.left ≡ 0) × (worn.made ≡ length pass.old.mine) × (pass.new ≡ pass.old)) }
     {
         if pass.left == 0 {
-            return Err(Worn { made: pass.made });
+            return Err(PassExhausted { made: pass.made });
         }
         let top = &self.table.shared;
         let Held { mut both } = take_turn(rt, top, &mut pass.seat);
@@ -178,7 +178,7 @@ impl<M: Machine> Shared<M> {
         ensures callers { (caller : ℕ) →
             entries_by caller (merged_entries pass) ≡ by caller (pass.past ++ pass.mine) }
         ensures seen { IsPrefix pass.seen (merged_entries pass) }
-        ensures leads { M.leads (merged_entries pass) result }
+        ensures reaches { M.reaches (merged_entries pass) result }
     {
         let Pass { seat, .. } = pass;
         let mut closed = self.table.close_with(seat);

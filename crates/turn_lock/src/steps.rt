@@ -1,7 +1,7 @@
 //! The steps of a call on the table, and those of a split and a join.
 ghost use Rattle.std.specs.Prelude.{◌≡◌, ℕ, ◌+◌, ◌-◌, ◌<◌, ◌≤◌, true};
 ghost use Rattle.std.specs.Prelude.{false, [], ◌∷◌, ◌++◌, length, Some, None, IsTrue, IsFalse};
-ghost use Rattle.call_history.specs.declared.TheConstants.{MOST_PLACES};
+ghost use Rattle.call_history.specs.declared.TheConstants.{MAX_PLACES};
 ghost use Rattle.call_history.specs.Prefix.{IsPrefix};
 ghost use Rattle.call_history.specs.Entries.{by, entries_by, entry};
 ghost use Rattle.turn_lock.specs.Views.{Owns};
@@ -10,7 +10,7 @@ ghost use Rattle.turn_lock.specs.Steps.{HasTaken, counted_view, lower_view, uppe
 use crate::held::Held;
 use crate::machine::Machine;
 use crate::plays::{Count, Cut, Glue, Look, Parts, Release, Try};
-use crate::recorder::{Recorder, Said};
+use crate::recorder::{Recorder, RecordsSteps};
 use crate::view::{AWAITED, FREE, Place, TAKEN, Top};
 use std::sync::Wait;
 use std::thread;
@@ -77,13 +77,13 @@ pub(crate) fn take_turn<M: Machine, W: Wait>(rt: &W, top: &Top<M>, seat: &mut Pl
 }
 
 // Counts the entry of a call, which gives its place, and records it beside the value.
-pub(crate) fn enter<K: Said<M::Call, M::Reply>, M: Machine>(
+pub(crate) fn enter<K: RecordsSteps<M::Call, M::Reply>, M: Machine>(
     top: &Top<M>,
     seat: &mut Place<M>,
     recorder: &mut Recorder<M::Call, M::Reply>,
     who: u32,
     call: &M::Call,
-    lent: &M::Lent,
+    lent: &M::Pending,
 ) -> u64
     requires table { (seat.old.table_id ≡ top.now.table_id) × (top.now.table_id.words ≡ 2) }
     requires said { K.said ≡ entry who call.now (M.reply lent.now) ∷ [] }
@@ -106,7 +106,7 @@ pub(crate) fn give_back<M: Machine>(top: &Top<M>, seat: &mut Place<M>, held: Hel
         × (top.now.table_id.words ≡ 2) × (top.now.table_id.slots ≡ 1) }
     requires turn { (seat.old.me.0.turn ≡ true)
         × (seat.old.me.0.seen ≡ held.history) × (seat.old.me.1 ≡ (0, None) ∷ []) }
-    requires stands { M.leads held.history held.value }
+    requires is_reached { M.reaches held.history held.value }
     ensures seat { (seat.new.table_id ≡ seat.old.table_id) × (seat.new.id ≡ seat.old.id) }
     ensures free { seat.new.me ≡ (record seat.old.me.0 { turn = false }, []) }
 {
@@ -150,7 +150,7 @@ pub(crate) fn merge<M: Machine>(top: &Top<M>, seat: &mut Place<M>, other: Place<
     ensures seat { (seat.new.table_id ≡ seat.old.table_id)
         × (seat.new.me ≡ (joined_view seat.old.me.0 other.me.0, [])) }
     ensures told { IsPrefix seat.new.me.0.told seat.new.me.0.seen }
-    ensures room { seat.new.me.0.left + length seat.new.me.0.mine ≤ MOST_PLACES }
+    ensures room { seat.new.me.0.left + length seat.new.me.0.mine ≤ MAX_PLACES }
 {
     top.join_seat::<Glue>(seat, other);
     top.load::<Look>(seat, 0);

@@ -1,5 +1,5 @@
 //! The table with the turn (word 0), the count of calls (word 1) and the value's slot.
-ghost use Rattle.turn_lock.specs.Turns.{Kept};
+ghost use Rattle.turn_lock.specs.Turns.{TurnInvariant};
 ghost use Rattle.turn_lock.specs.Views.{first_view};
 
 use crate::held::Held;
@@ -40,7 +40,7 @@ pub(crate) struct Limits {
 pub(crate) struct Turn;
 
 impl<M: Machine> TableRule<Option<Held<M>>, View<M::Call, M::Reply>, Limits> for Turn {
-    ghost holds = { λ limits. Kept M.leads limits.numbers limits.allowance };
+    ghost holds = { λ limits. TurnInvariant M.reaches limits.numbers limits.allowance };
 
     ghost first = { λ limits. first_view limits.numbers limits.allowance };
 }

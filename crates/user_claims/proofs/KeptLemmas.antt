@@ -13,7 +13,7 @@ use Rattle.policy_ctx.specs.declared.policy.KeyId.{KeyId}
 use Rattle.user_claims.specs.Claims.{Claim, ClaimSet, id_cmp, claim_cmp, no_claims, has_claim, with_claim, without_claim}
 use Rattle.user_claims.specs.ClaimCounts.{count_of_user, count_of_id}
 use Rattle.user_claims.specs.Counted.{set_of, IsCounted}
-use Rattle.key_counts.specs.Counted.{counted}
+use Rattle.key_counts.specs.CountForms.{count_or_none}
 use Rattle.user_claims.proofs.ClaimOrder.{claim_cmp_total, id_cmp_total, id_cmp-IsAntisymmetric, id_ties}
 use Rattle.user_claims.proofs.ClaimLemmas.{ties, same_claim, same_claim-symm, same_claims, some_or}
 use Rattle.user_claims.proofs.ClaimLemmas.{has_claim-with_claim, has_claim-without_claim}
@@ -72,8 +72,8 @@ module _ (old new : sorted.BTreeSet Claim) (id : KeyId) (user : ℕ) where
 pub IsCounted-none : (by_user : BTreeMap ℕ ℕ) (by_id : BTreeMap KeyId ℕ) → IsEmpty by_user → IsEmpty by_id
     → IsCounted no_claims by_user by_id
 IsCounted-none by_user by_id no_user no_id = record {
-  users = λ user. rw no_user (ap counted (sym (count_of_user-none user)));
-  ids = λ id. rw no_id (ap counted (sym (count_of_id-none id)));
+  users = λ user. rw no_user (ap count_or_none (sym (count_of_user-none user)));
+  ids = λ id. rw no_id (ap count_or_none (sym (count_of_id-none id)));
 }
 
 -- a claim that is held was counted
@@ -112,9 +112,9 @@ module _ (claims : ClaimSet) (by_user by_user' : BTreeMap ℕ ℕ) (by_id by_id'
 
   pub IsCounted-removed : has_claim claims id user ≡ true
       → ((q : ℕ) → get nat_cmp by_user' q ≡ cond (eq_by_cmp nat_cmp user q)
-      (counted (unwrap_or (get nat_cmp by_user user) 0 - 1)) (get nat_cmp by_user q))
+      (count_or_none (unwrap_or (get nat_cmp by_user user) 0 - 1)) (get nat_cmp by_user q))
       → ((q : KeyId) → get id_cmp by_id' q ≡ cond (eq_by_cmp id_cmp id q)
-      (counted (unwrap_or (get id_cmp by_id id) 0 - 1)) (get id_cmp by_id q))
+      (count_or_none (unwrap_or (get id_cmp by_id id) 0 - 1)) (get id_cmp by_id q))
       → IsCounted (without_claim claims id user) by_user' by_id'
   IsCounted-removed held of_user on_id = record {
     users =

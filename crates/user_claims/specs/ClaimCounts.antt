@@ -3,7 +3,7 @@ use Rattle.std.specs.Prelude.{◌≡◌, ℕ, ◌≤◌, Bool, false, not, ◌==
 use Rattle.std.specs.FinMap as map
 use Rattle.policy_ctx.specs.declared.policy.KeyId.{KeyId}
 use Rattle.policy_ctx.specs.KeyIds.{same_id}
-use Rattle.user_claims.specs.declared.claims.TheConstants.{MOST_CLAIMS}
+use Rattle.user_claims.specs.declared.claims.TheConstants.{MAX_CLAIMS}
 use Rattle.user_claims.specs.Claims.{ClaimSet, has_claim}
 
 -- the claims of one user, and those on one key
@@ -27,4 +27,4 @@ is_present claims id = not (count_of_id claims id == 0)
 
 -- a claim of this user on this key would be a new one, and the user has 64
 abbrev pub IsOverQuota : ClaimSet → KeyId → ℕ → Type 0
-IsOverQuota claims id user = (has_claim claims id user ≡ false) × (MOST_CLAIMS ≤ count_of_user claims user)
+IsOverQuota claims id user = (has_claim claims id user ≡ false) × (MAX_CLAIMS ≤ count_of_user claims user)

@@ -12,7 +12,7 @@ use std::collections::{BTreeMap, BTreeSet};
 use std::marker::Model;
 
 /// The maximum number of claims of a user.
-pub const MOST_CLAIMS: u32 = 64;
+pub const MAX_CLAIMS: u32 = 64;
 
 /// The claims of all users, seen as the finite set of (identifier, user).
 ///
@@ -65,7 +65,7 @@ impl Claims {
         if self.has(id, uid) {
             return Ok(());
         }
-        if self.count_of_uid(uid) >= MOST_CLAIMS {
+        if self.count_of_uid(uid) >= MAX_CLAIMS {
             return Err(ClaimFault::Quota);
         }
         // So each count fits 32 bits; no key has that many users in practice.

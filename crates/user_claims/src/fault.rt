@@ -9,7 +9,7 @@ use thiserror::Error;
 /// Why a claim wasn't made. All claims are as before then.
 #[derive(Clone, Copy, Debug, PartialEq, Eq, Error)]
 pub enum ClaimFault {
-    /// The user has `MOST_CLAIMS` claims.
+    /// The user has `MAX_CLAIMS` claims.
     #[error("the user has 64 claims")]
     Quota,
     /// There was no memory for it.

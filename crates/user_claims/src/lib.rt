@@ -4,6 +4,6 @@
 mod claims;
 mod fault;
 
-pub use claims::{Claims, MOST_CLAIMS};
+pub use claims::{Claims, MAX_CLAIMS};
 pub use fault::ClaimFault;
 pub use policy_ctx::KeyId;

@@ -1,7 +1,7 @@
 //! The cache of names, with ample memory.
 ghost use Rattle.std.specs.Prelude.{◌≤◌, length};
 
-use dentry_cache::{MOST_CACHED_NAME_BYTES, NameCache};
+use dentry_cache::{MAX_CACHED_NAME_BYTES, NameCache};
 use std::alloc::AllocError;
 use std::process::Abort;
 
@@ -30,7 +30,7 @@ fn expect_number<A: Abort>(
     name: &[u8],
     number: Option<u32>,
 )
-    requires short { length name.now ≤ MOST_CACHED_NAME_BYTES }
+    requires short { length name.now ≤ MAX_CACHED_NAME_BYTES }
 {
     assert!(rt; names.find(dir, name) == number);
 }

@@ -53,9 +53,9 @@ pub group_made : (cipher : List ℕ → List ℕ) (tweak : ℕ) (group : List �
     ((b : ℕ) → b < 8 → get_or made b [] ≡ cipher (get_or taken b [])) →
     first_blocks (λ b. xor_bytes (get_or made b []) (get_or masks b [])) 8 ≡ group_of cipher tweak group
 unfolding group_of tweaked
-group_made cipher tweak group taken made masks mask masked enciphered =
+group_made cipher tweak group taken made masks mask masked is_encrypted =
     first_blocks_same (λ b. xor_bytes (get_or made b []) (get_or masks b [])) (λ b. tweaked cipher (tweak_from tweak b) (block_at 16 group b)) 8
-    (λ b low i. xor_bytes ((enciphered b low ∙ ap cipher (masked b low ∙ ap (λ m. xor_bytes (block_at 16 group b) m) (mask b low))) i) (mask b low i))
+    (λ b low i. xor_bytes ((is_encrypted b low ∙ ap cipher (masked b low ∙ ap (λ m. xor_bytes (block_at 16 group b) m) (mask b low))) i) (mask b low i))
 
 -- ---- a group is a part of a unit
 

@@ -5,7 +5,7 @@ import re
 from parts import TOP
 from parts.common.running import SERIAL, ZEROS, run
 
-MOST_LINES = 20_000
+MAX_LINES = 20_000
 LISTED = b"fsc --help lists the commands"
 HEX_128 = b"row of 1 to 128 bytes in hexadecimal"
 NUMBER = b"number from 0 to 4294967295"
@@ -159,7 +159,7 @@ def advice_on_lines(tally):
         status, got, line = run(SERIAL, script)
         wanted = b"fsc: bad line " + told[5:].split(b":")[0] + b"\nfsc: " + told + b"\n"
         tally.wants(f"{script[:40]!r} tells why", (status, got, line) == (3, b"", wanted), repr(line))
-    _, _, line = run(SERIAL, b"\n" * (MOST_LINES + 1))
+    _, _, line = run(SERIAL, b"\n" * (MAX_LINES + 1))
     tally.wants("a line too many tells what to do",
                 line == b"fsc: input too long\nfsc: a script has at most 1048576 bytes and 20000 lines\n",
                 repr(line))

@@ -9,7 +9,7 @@ from parts.common.running import SERIAL, THREADED, ZEROS, run, scripts
 CHECK = ["check", "--seed", ZEROS]
 REFUSED, USAGE, BAD_LINE, TOO_LONG = 1, 2, 3, 7
 CHANGES, LONG_LOG, THREADED_LOGS = 200, 20_000, 100
-MOST_BYTES, MOST_PART, MOST_LINES = 67_108_864, 1_048_576, 20_000
+MAX_BYTES, MAX_PART, MAX_LINES = 67_108_864, 1_048_576, 20_000
 IDENTIFIER = "8699c2c53707405da5aba5ae4d8583c0"
 
 
@@ -147,15 +147,15 @@ def faulty_certificates(tally):
             ("a bad line before", b"caller 1000\nmkdri /a\n---\n", BAD_LINE, b"fsc: bad line 2\n"),
             ("no script and no log", b"---\n", 0, b""),
             ("a parting line before a bad one", b"---\nmkdri /a\n", REFUSED, b"fsc: refused at 0\n"),
-            ("as many bytes as the script may have", b"#" * (MOST_PART - 1) + b"\n---\n", 0, b""),
-            ("a byte more", b"#" * MOST_PART + b"\n---\n", TOO_LONG, b"fsc: input too long\n"),
-            ("as many lines as the script may have", b"\n" * MOST_LINES + b"---\n", 0, b""),
-            ("a line more", b"\n" * (MOST_LINES + 1) + b"---\n", TOO_LONG, b"fsc: input too long\n"),
-            ("a line too many and no parting line", b"\n" * (MOST_LINES + 1), TOO_LONG,
+            ("as many bytes as the script may have", b"#" * (MAX_PART - 1) + b"\n---\n", 0, b""),
+            ("a byte more", b"#" * MAX_PART + b"\n---\n", TOO_LONG, b"fsc: input too long\n"),
+            ("as many lines as the script may have", b"\n" * MAX_LINES + b"---\n", 0, b""),
+            ("a line more", b"\n" * (MAX_LINES + 1) + b"---\n", TOO_LONG, b"fsc: input too long\n"),
+            ("a line too many and no parting line", b"\n" * (MAX_LINES + 1), TOO_LONG,
              b"fsc: input too long\n"),
             ("as many bytes as may be", script + b"---\n" + log
-             + b"\n" * (MOST_BYTES - len(script + log) - 4), REFUSED, b"fsc: refused at 1\n"),
-            ("a byte more in all", script + b"---\n" + log + b"\n" * (MOST_BYTES - len(script + log) - 3),
+             + b"\n" * (MAX_BYTES - len(script + log) - 4), REFUSED, b"fsc: refused at 1\n"),
+            ("a byte more in all", script + b"---\n" + log + b"\n" * (MAX_BYTES - len(script + log) - 3),
              TOO_LONG, b"fsc: input too long\n")):
         status, got, line = run(CHECK, given)
         tally.wants(f"{what} ends with {wanted}", (status, got) == (wanted, b"") and line.startswith(told)
@@ -195,10 +195,10 @@ def told_faults(tally):
             ("a bad line alone", bad, 2, behind + is_none),
             ("a bad line with a log", bad + b"---\n0 0 1000 create /a = ok\n", 2, is_none),
             ("a bad line with as long a log as is kept",
-             bad + b"---\n" + b"\n" * (MOST_PART + 1 - len(bad) - 4), 2, is_none),
-            ("a bad line with a log of a byte more", bad + b"---\n" + b"\n" * (MOST_PART + 2 - len(bad) - 4),
+             bad + b"---\n" + b"\n" * (MAX_PART + 1 - len(bad) - 4), 2, is_none),
+            ("a bad line with a log of a byte more", bad + b"---\n" + b"\n" * (MAX_PART + 2 - len(bad) - 4),
              2, no_room),
-            ("a bad line with a long log", bad + b"---\n" + b"\n" * 2 * MOST_PART, 2, no_room)):
+            ("a bad line with a long log", bad + b"---\n" + b"\n" * 2 * MAX_PART, 2, no_room)):
         status, got, said = run(CHECK, given)
         tally.wants(f"{what} is told", (status, got, said)
                     == (BAD_LINE, b"", b"fsc: bad line %d\nfsc: " % line + told + b"\n"), repr(said))

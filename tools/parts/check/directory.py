@@ -2,14 +2,14 @@
 from parts.common.running import SERIAL, run
 
 KEY, IDENTIFIER = "07" * 32, "1101420d499290b005fc681527257159"
-MOST_ENTRIES, PAGE = 4_096, 128
+MAX_ENTRIES, PAGE = 4_096, 128
 
 
 def full_directory(tally):
     """An encrypted directory takes 4,096 names, is listed whole with and without its key, and is emptied
     without it."""
-    names = [f"name-{number:04}" for number in range(MOST_ENTRIES)]
-    pages = [f"list /d {start}" for start in range(0, MOST_ENTRIES, PAGE)]
+    names = [f"name-{number:04}" for number in range(MAX_ENTRIES)]
+    pages = [f"list /d {start}" for start in range(0, MAX_ENTRIES, PAGE)]
     emptied = (["list /d 0"] + [f"unlink /d/*{number}" for number in range(PAGE)]) * len(pages)
     commands = ["add-key " + KEY, "mkdir /d", f"set-policy /d raw:{KEY} 32",
                 *(f"create /d/{name}" for name in reversed(names)),
@@ -21,7 +21,7 @@ def full_directory(tally):
                 f"it ended with {status}")
     if len(replies) != len(commands):
         return
-    made, behind = replies[3:3 + MOST_ENTRIES], replies[3 + MOST_ENTRIES:]
+    made, behind = replies[3:3 + MAX_ENTRIES], replies[3 + MAX_ENTRIES:]
     tally.wants("4,096 names are made, and no 4,097th",
                 set(made) == {"ok"} and behind[0] == "refused no-space", behind[0])
     listed = behind[1:1 + len(pages)]
@@ -34,11 +34,11 @@ def full_directory(tally):
     tally.wants("with its key its names are listed, in order", found == names)
     texts = [text for line in locked for text in line.split(" ")[3:]]
     tally.wants("without its key a text is listed for each, in order",
-                texts == sorted(set(texts)) and len(texts) == MOST_ENTRIES and not set(texts) & set(names))
+                texts == sorted(set(texts)) and len(texts) == MAX_ENTRIES and not set(texts) & set(names))
     gone = behind[2 + 2 * len(pages):]
     unlinked = [line for number, line in enumerate(gone[:-2]) if number % (1 + PAGE)]
     tally.wants("each name is removed by its text",
-                len(unlinked) == MOST_ENTRIES and set(unlinked) == {"ok"})
+                len(unlinked) == MAX_ENTRIES and set(unlinked) == {"ok"})
     tally.wants("the directory is empty then, and is removed", gone[-2:] == ["names 0 more=0", "ok"],
                 str(gone[-2:]))
 

@@ -9,7 +9,7 @@ from parts.check.aes import from_cts, in_cts, in_xts
 from parts.common.ciphers import expanded, extracted
 from parts.common.command_calls import begins, calls_of
 
-BLOCK, MOST_NAME, LEAST_STORED = 4_096, 255, 16
+BLOCK, MAX_NAME, MIN_STORED = 4_096, 255, 16
 IDENTIFIER, OWN_KEY, MODE_KEY = 1, 2, 4
 CONTENTS, NAMES = 1, 4
 UUID = b"fsc-memory-mount"
@@ -48,7 +48,7 @@ def start(context, number):
 def stored_name(raw, context, number, name):
     """A name, or a target, as it is stored under a policy."""
     padding = 4 << (context[3] & 3)
-    length = min(-(-max(len(name), LEAST_STORED) // padding) * padding, MOST_NAME)
+    length = min(-(-max(len(name), MIN_STORED) // padding) * padding, MAX_NAME)
     iv = start(context, number).to_bytes(8, "little") + bytes(8)
     return in_cts(node_key(raw, context, NAMES), iv, name.ljust(length, b"\0"))
 

@@ -6,7 +6,7 @@ from urllib.parse import quote_from_bytes
 from parts.check.disk import BLOCK, identifier, in_units, no_key_text, plain_name, stored_name
 
 HEADER = b"fsc-image 1"
-MOST_FILE = 1_048_576
+MAX_FILE = 1_048_576
 SAFE = "-._~"
 
 
@@ -85,7 +85,7 @@ def node_of(line):
             more = None if kind == "dir" else int(found[3]) if kind == "file" else bytes.fromhex(
                 found[3].decode())
             context = context_of(found[2])
-            if kind == "file" and more > MOST_FILE or kind == "link" and context and len(more) < 16:
+            if kind == "file" and more > MAX_FILE or kind == "link" and context and len(more) < 16:
                 return None
             return Stored(int(found[1]), kind, context, more)
     return None

@@ -12,7 +12,7 @@ DUMP = ["dump", "--seed", ZEROS]
 SEED = bytes.fromhex(ZEROS)
 RAW = bytes(range(64))
 IDENTIFIER = "8699c2c53707405da5aba5ae4d8583c0"
-MOST_IMAGE = 268_435_456
+MAX_IMAGE = 268_435_456
 CHANGED, BAD_LINE, TOO_LONG, PIECE = 200, 3, 7, 1 << 20
 
 
@@ -179,8 +179,8 @@ def linux_images(tally):
 def long_images(tally):
     """As many bytes as an image may have, and one more."""
     for more, wanted, told in ((0, BAD_LINE, b"fsc: bad line 1\n"), (1, TOO_LONG, b"fsc: input too long\n")):
-        status, got, line = run(inspected(), b"\n" * (MOST_IMAGE + more))
-        tally.wants(f"an image of {MOST_IMAGE + more} bytes ends with {wanted}",
+        status, got, line = run(inspected(), b"\n" * (MAX_IMAGE + more))
+        tally.wants(f"an image of {MAX_IMAGE + more} bytes ends with {wanted}",
                     (status, got) == (wanted, b"") and line.startswith(told), repr((status, line)))
 
 

@@ -2,11 +2,11 @@
 room that is made serves again."""
 from parts.common.running import SERIAL, run
 
-MOST_HANDLES, MOST_RECORDS, FILES, FILLS = 4_096, 1_024, 64, 16
+MAX_HANDLES, MAX_RECORDS, FILES, FILLS = 4_096, 1_024, 64, 16
 NO_SPACE = "refused no-space"
 
-OPENED = [("create /f", "ok"), *(("open /f", f"handle {number}") for number in range(MOST_HANDLES)),
-          ("open /f", NO_SPACE), ("close 7", "ok"), ("open /f", f"handle {MOST_HANDLES}"),
+OPENED = [("create /f", "ok"), *(("open /f", f"handle {number}") for number in range(MAX_HANDLES)),
+          ("open /f", NO_SPACE), ("close 7", "ok"), ("open /f", f"handle {MAX_HANDLES}"),
           ("open /f", NO_SPACE)]
 
 # 64 files of 256 blocks each
@@ -22,7 +22,7 @@ FILLED = [
     (f"fill {FILES + 1} 0 1 7", NO_SPACE),
 ]
 
-STORED = [*((f"meta-put protector/p{number} 0 61", "stored 1") for number in range(MOST_RECORDS)),
+STORED = [*((f"meta-put protector/p{number} 0 61", "stored 1") for number in range(MAX_RECORDS)),
           ("meta-put protector/more 0 61", NO_SPACE), ("meta-put protector/more 1 61", "refused changed 0"),
           ("meta-put protector/p7 1 62", "stored 2")]
 

@@ -10,7 +10,7 @@ MADE = ["caller 1000", f"protector login {PASS.replace('pass:', 'pass:1:8:1:')}"
 FITS = {"iv": "wrong-key", "key": "wrong-key", "tag": "wrong-key", "descriptor": "bad-record",
         "id": "bad-record"}
 OF_WRAPS = ("wrap", "label", "iv", "key", "tag")
-LEAST_DIGITS = 16
+MIN_DIGITS = 16
 
 
 def last_record(lines):
@@ -39,7 +39,7 @@ def digits_changed(lines, label):
             continue
         names = OF_WRAPS if words[0] == "wrap" else ("", words[0])
         for number, (name, word) in enumerate(zip(names, words)):
-            if name in FITS and len(word) >= LEAST_DIGITS:
+            if name in FITS and len(word) >= MIN_DIGITS:
                 for other in other_digits(word):
                     yield f"of another {words[0]}, {name}", put_in(
                         lines, at, " ".join([*words[:number], other, *words[number + 1:]])), FITS[name]

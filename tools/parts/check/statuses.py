@@ -7,7 +7,7 @@ from parts import TOP
 from parts.common.running import PROGRAM, SERIAL, THREADED, ZEROS, run, run_at_terminal
 
 ONE_KEY = b"caller 1000\nadd-key " + b"07" * 32 + b"\n"
-MOST_BYTES, MOST_LINES = 1_048_576, 20_000
+MAX_BYTES, MAX_LINES = 1_048_576, 20_000
 
 
 def statuses(tally):
@@ -32,23 +32,23 @@ def statuses(tally):
          b""),
         ("dump of a command that is none", ["dump", "--seed", ZEROS], b"caller 0\nmkdri /a\n", 3,
          b"fsc: bad line 2"),
-        ("dump of a line too many", ["dump", "--seed", ZEROS], b"\n" * (MOST_LINES + 1), 7,
+        ("dump of a line too many", ["dump", "--seed", ZEROS], b"\n" * (MAX_LINES + 1), 7,
          b"fsc: input too long"),
         ("two mounts in threads", ["replay-linked", "--seed", ZEROS], b"", 0, b""),
         ("two mounts without a seed", ["replay-linked", "--serial"], b"", 2, b"fsc: usage"),
         ("two mounts and a command that is none", ["replay-linked", "--serial", "--seed", ZEROS],
          b"caller 0\nmkdri /a\n", 3, b"fsc: bad line 2"),
         ("two mounts and a line too many", ["replay-linked", "--serial", "--seed", ZEROS],
-         b"\n" * (MOST_LINES + 1), 7, b"fsc: input too long"),
+         b"\n" * (MAX_LINES + 1), 7, b"fsc: input too long"),
         ("a word that is no text", ["replay", b"\xff"], b"", 2, b"fsc: usage"),
         ("a command that is none", SERIAL, b"caller 0\nmkdri /a\n", 3, b"fsc: bad line 2"),
         ("no line feed at the end", SERIAL, b"caller 0", 3, b"fsc: bad line 1"),
         ("a ninth caller", SERIAL, b"caller 0\n" * 9, 3, b"fsc: bad line 9"),
-        ("as many bytes as may be", SERIAL, b"#" * (MOST_BYTES - 1) + b"\n", 0, b""),
-        ("as many bytes without a line feed", SERIAL, b"#" * MOST_BYTES, 3, b"fsc: bad line 1"),
-        ("a byte too many", SERIAL, b"#" * MOST_BYTES + b"\n", 7, b"fsc: input too long"),
-        ("as many lines as may be", SERIAL, b"\n" * MOST_LINES, 0, b""),
-        ("a line too many", SERIAL, b"\n" * (MOST_LINES + 1), 7, b"fsc: input too long"),
+        ("as many bytes as may be", SERIAL, b"#" * (MAX_BYTES - 1) + b"\n", 0, b""),
+        ("as many bytes without a line feed", SERIAL, b"#" * MAX_BYTES, 3, b"fsc: bad line 1"),
+        ("a byte too many", SERIAL, b"#" * MAX_BYTES + b"\n", 7, b"fsc: input too long"),
+        ("as many lines as may be", SERIAL, b"\n" * MAX_LINES, 0, b""),
+        ("a line too many", SERIAL, b"\n" * (MAX_LINES + 1), 7, b"fsc: input too long"),
     ]
     for what, words, given, wanted, told in cases:
         status, _, line = run(words, given)

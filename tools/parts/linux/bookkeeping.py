@@ -7,7 +7,7 @@ import contextlib
 import dataclasses
 import urllib.parse
 
-MOST_NAME = 255
+MAX_NAME = 255
 ROOT = 0
 CREATIONS = {"mkdir": "dir", "create": "file", "symlink": "link"}
 
@@ -82,7 +82,7 @@ class Bookkeeping:
             if at.kind != "dir":
                 return passed, None, "not-dir"
             passed.append(at)
-            if length_of(part) > MOST_NAME:
+            if length_of(part) > MAX_NAME:
                 return passed, None, "name-too-long"
             at = self.entry(at, part)
             if at is None:
@@ -103,7 +103,7 @@ class Bookkeeping:
         _, at, why = self.walk(parts[:-1])
         if at is not None and at.kind != "dir":
             at, why = None, "not-dir"
-        if at is not None and length_of(parts[-1]) > MOST_NAME:
+        if at is not None and length_of(parts[-1]) > MAX_NAME:
             why = "name-too-long"
         return at, why
 

@@ -2,7 +2,7 @@
 import dataclasses
 
 from parts.linux.bookkeeping import Bookkeeping, parts_of
-from parts.linux.scripts import MOST_SHOWN, NO_KEY, PATHS, fields, learn_texts, names_of
+from parts.linux.scripts import MAX_PRINTED, NO_KEY, PATHS, fields, learn_texts, names_of
 
 
 @dataclasses.dataclass
@@ -105,7 +105,7 @@ def steps(log, answers):
         if told.partition(" = ")[0] != asked:
             step.theirs = f"no answer, but to: {told[:100]}"
         if verb == "list":
-            learn_texts(books, log[at + 1:at + 1 + MOST_SHOWN], caller, words[0])
+            learn_texts(books, log[at + 1:at + 1 + MAX_PRINTED], caller, words[0])
         yield step
         if "cut" in step.told:
             return

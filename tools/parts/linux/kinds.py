@@ -8,7 +8,7 @@ import itertools
 import os
 
 from parts import TOP
-from parts.linux.bookkeeping import CREATIONS, MOST_NAME, length_of
+from parts.linux.bookkeeping import CREATIONS, MAX_NAME, length_of
 from parts.linux.refusals import causes, is_policy, names_root, own_causes
 from parts.linux.scripts import names_of
 
@@ -212,7 +212,7 @@ def short_key(step):
 
 def long_target(step):
     """Linux takes longer targets."""
-    return (step.verb == "symlink" and length_of(step.words[1]) > MOST_NAME
+    return (step.verb == "symlink" and length_of(step.words[1]) > MAX_NAME
             and step.refused == "name-too-long"
             and step.theirs == "ok")
 

@@ -6,13 +6,13 @@ A refusal is named as tools/parts/linux/drive names it; of a long answer the fir
 """
 import dataclasses
 
-from parts.linux.bookkeeping import CREATIONS, MOST_NAME, length_of, parts_of
+from parts.linux.bookkeeping import CREATIONS, MAX_NAME, length_of, parts_of
 from parts.linux.kinds import names_root
 from parts.linux.refusals import causes, is_policy, of_entry
 
-MOST_TARGET, MOST_ENCRYPTED_TARGET = 4_095, 4_093
-MOST_CLAIMS = 188
-MOST_READ, MOST_FILE, MOST_ENTRIES = 4_096, 1_048_576, 4_096
+MAX_TARGET, MAX_ENCRYPTED_TARGET = 4_095, 4_093
+MAX_CLAIMS = 188
+MAX_READ, MAX_FILE, MAX_ENTRIES = 4_096, 1_048_576, 4_096
 DONE = {"open": "handle", "list": "names", "stat": "stat", "readlink": "target", "get-policy": "policy"}
 
 
@@ -102,7 +102,7 @@ def raw_keys(step):
 def quota(step):
     """A user's claims beyond 64."""
     held = sum(step.user in claim for claim in step.books.claims.values())
-    return "added" if step.verb == "add-key" and step.refused == "quota" and held < MOST_CLAIMS else None
+    return "added" if step.verb == "add-key" and step.refused == "quota" and held < MAX_CLAIMS else None
 
 
 def targets_of_links(step):
@@ -110,8 +110,8 @@ def targets_of_links(step):
     if step.verb != "symlink" or step.refused != "name-too-long":
         return None
     home, why = step.books.parent(step.words[0])
-    most = MOST_ENCRYPTED_TARGET if home is not None and home.policy else MOST_TARGET
-    return "ok" if not why and MOST_NAME < length_of(step.words[1]) <= most else None
+    most = MAX_ENCRYPTED_TARGET if home is not None and home.policy else MAX_TARGET
+    return "ok" if not why and MAX_NAME < length_of(step.words[1]) <= most else None
 
 
 def directory_written(step):
@@ -127,7 +127,7 @@ def limits(step):
         return "ok"
     if step.verb in CREATIONS and step.refused == "no-space":
         home, _ = step.books.parent(step.words[0])
-        return "ok" if home is not None and len(home.entries) >= MOST_ENTRIES else None
+        return "ok" if home is not None and len(home.entries) >= MAX_ENTRIES else None
     return None
 
 
@@ -154,9 +154,9 @@ def order_of_rename(step):
         return None
     if to is None:
         return first([books.parent(new)[1]])
-    found = ["name-too-long"] if length_of(parts_of(old)[-1]) > MOST_NAME else []
+    found = ["name-too-long"] if length_of(parts_of(old)[-1]) > MAX_NAME else []
     found += ["not-found"] if node is None else []
-    found += ["name-too-long"] if length_of(parts_of(new)[-1]) > MOST_NAME else []
+    found += ["name-too-long"] if length_of(parts_of(new)[-1]) > MAX_NAME else []
     found += ["exists"] if taken is not None else []
     found += ["inval"] if node is not None and (to is node or node in to.above()) else []
     return first(found)

@@ -5,7 +5,7 @@ them.
 """
 import re
 
-from parts.linux.bookkeeping import CREATIONS, MOST_NAME, ROOT, length_of, parts_of
+from parts.linux.bookkeeping import CREATIONS, MAX_NAME, ROOT, length_of, parts_of
 
 POLICY = re.compile("020104(0[0-3]|0[89ab])(00|09|0a|0b|0c)000000.{32}")
 
@@ -79,7 +79,7 @@ def of_creation(step):
     home, node, causes = of_entry(step.books, step.words[0])
     causes |= {"exists"} if node is not None else set()
     causes |= {"no-key"} if home is not None and step.books.keyless(home) else set()
-    if step.verb == "symlink" and length_of(step.words[1]) > MOST_NAME:
+    if step.verb == "symlink" and length_of(step.words[1]) > MAX_NAME:
         causes.add("name-too-long")
     return causes
 

@@ -5,7 +5,7 @@ import dataclasses
 from parts.linux.comparison import same, scripts_of, steps
 from parts.linux.kinds import KINDS, PAGE, kind_of, rows
 
-MOST_SHOWN = 300
+MAX_PRINTED = 300
 REFUSALS = {"no-key", "access", "quota", "inval", "exists", "not-found", "not-dir", "is-dir", "not-empty",
             "x-dev", "no-data",
             "bad-handle", "name-too-long", "too-big", "no-space"}
@@ -72,9 +72,9 @@ def show(step):
     if isinstance(step, tuple):
         print(f"unexplained: {step[0]}: {step[1]}")
         return
-    print(f"unexplained in {step.script}: {step.line.partition(' = ')[0][:MOST_SHOWN]}")
-    print(f"    fsc:   {step.ours[:MOST_SHOWN]}")
-    print(f"    Linux: {step.theirs[:MOST_SHOWN]} {step.told}")
+    print(f"unexplained in {step.script}: {step.line.partition(' = ')[0][:MAX_PRINTED]}")
+    print(f"    fsc:   {step.ours[:MAX_PRINTED]}")
+    print(f"    Linux: {step.theirs[:MAX_PRINTED]} {step.told}")
 
 
 def report(result):

@@ -13,9 +13,9 @@ PATHS = {"set-policy": 1, "get-policy": 1, "mkdir": 1, "create": 1, "symlink": 1
          "rmdir": 1,
          "rename": 2, "list": 1, "stat": 1, "open": 1}
 NOT_IN_LINUX = ("meta-get", "meta-put")
-MOST_STATS = 10_000
+MAX_STATS = 10_000
 NO_USER, STANDS_FOR_IT = 4_294_967_295, 4_294_967_293
-MOST_SHOWN = 128
+MAX_PRINTED = 128
 
 
 class Script:
@@ -94,7 +94,7 @@ def names_of(reply):
     return reply.split(" ")[3:]
 
 
-def drawn_key(caller, number):
+def derived_file_key(caller, number):
     """The key of 64 bytes that a caller's command of this number draws (docs/FORMATS.md, Draws)."""
     info = b"fsc draw" + bytes([caller]) + (16 * number).to_bytes(8, "little")
     fixed = hmac.digest(bytes(64), bytes.fromhex(SEED), "sha512")
@@ -149,7 +149,7 @@ def with_stats(program, script):
         made = stats_put(script, behind)
         log = replay(program, made)
         wanted = [max(pair) for pair in zip(behind, texts_listed(log), strict=True)]
-        if wanted == behind or sum(wanted) * len(script.users) > MOST_STATS:
+        if wanted == behind or sum(wanted) * len(script.users) > MAX_STATS:
             return made, log
         behind = wanted
 
@@ -186,11 +186,11 @@ class Calls:
             if line.split(" ", 3)[3] == FILLED:
                 continue
             if command.startswith("policy-new ") and verb == "meta-put" and not reply.startswith("refused"):
-                self.keys[command.split(" ")[1]] = drawn_key(caller, number)
+                self.keys[command.split(" ")[1]] = derived_file_key(caller, number)
             if verb in NOT_IN_LINUX:
                 continue
             if verb == "list":
-                learn_texts(self.books, log[at + 1:at + 1 + len(script.users) * MOST_SHOWN], caller,
+                learn_texts(self.books, log[at + 1:at + 1 + len(script.users) * MAX_PRINTED], caller,
                             words[0])
             self.log.append(line)
             self.lines.append(self.call(line, command))

@@ -19,8 +19,8 @@
 #include <stdlib.h>
 #include <string.h>
 
-enum { MOST_NAME = 255, MOST_SPELLED = 149, MOST_PARTS = 32 };
-enum { MOST_ENTRIES = 4096, MOST_NODES = 65536, PAGE = 128 };
+enum { MAX_NAME = 255, MAX_SPELLED = 149, MAX_PARTS = 32 };
+enum { MAX_ENTRIES = 4096, MAX_NODES = 65536, PAGE = 128 };
 enum { CONTEXT = 40, POLICY = 24, ID = 16, RUN_NAMES = 64, ROUND_NAMES = 320, FEW = 128, PAGE_START = 2048 };
 
 typedef enum {
@@ -137,7 +137,7 @@ static void cts_decrypt(const struct names_key *key, uint8_t *text, size_t len) 
 
 struct text {
     size_t len;
-    uint8_t bytes[MOST_NAME + 1];
+    uint8_t bytes[MAX_NAME + 1];
 };
 
 struct part {
@@ -148,7 +148,7 @@ struct part {
 // The stored form: padded with zeros to a multiple of 32 bytes, at least 16 and at most 255, and encrypted.
 static void stored_form(const struct names_key *key, const struct part *name, struct text *out) {
     size_t len = (name->len + 31) / 32 * 32;
-    out->len = len > MOST_NAME ? MOST_NAME : len;
+    out->len = len > MAX_NAME ? MAX_NAME : len;
     memcpy(out->bytes, name->bytes, name->len);
     memset(out->bytes + name->len, 0, out->len - name->len);
     cts_encrypt(key, out->bytes, out->len);
@@ -316,7 +316,7 @@ static struct names_key *key_at(uint32_t number) {
 
 struct path {
     size_t count;
-    struct part parts[MOST_PARTS];
+    struct part parts[MAX_PARTS];
 };
 
 struct stat {
@@ -340,7 +340,7 @@ static fault form_in(uint32_t dir, const struct part *part, struct text *stored)
 
 static fault may_look(uint32_t dir, const struct part *part) {
     if (nodes[dir].kind != DIR) return NOT_DIR;
-    return part->len > MOST_NAME ? TOO_LONG : OK;
+    return part->len > MAX_NAME ? TOO_LONG : OK;
 }
 
 static fault entry_of(uint32_t dir, const struct part *part, struct entry ***slot) {
@@ -383,7 +383,7 @@ static fault place_in(uint32_t dir, const struct part *part, struct place *place
     place->dir = dir;
     place->hash = hash_of(place->stored.bytes, place->stored.len);
     if (slot_of(&nodes[dir].dir, place->stored.bytes, place->stored.len, place->hash)) return EXISTS;
-    return nodes[dir].encrypted && place->stored.len > MOST_SPELLED ? TOO_LONG : OK;
+    return nodes[dir].encrypted && place->stored.len > MAX_SPELLED ? TOO_LONG : OK;
 }
 
 static fault make(const struct path *path, enum kind kind, const uint8_t nonce[16]) {
@@ -391,7 +391,7 @@ static fault make(const struct path *path, enum kind kind, const uint8_t nonce[1
     struct place place;
     fault failed = parent(path, &dir, 0, NULL);
     if (failed || (failed = place_in(dir, &path->parts[path->count - 1], &place))) return failed;
-    if (nodes[dir].dir.count >= MOST_ENTRIES || node_count - free_count >= MOST_NODES) return NO_SPACE;
+    if (nodes[dir].dir.count >= MAX_ENTRIES || node_count - free_count >= MAX_NODES) return NO_SPACE;
     uint32_t node = new_node(kind, &nodes[dir], nonce);
     put_entry(&nodes[dir].dir, new_entry(place.stored.bytes, place.stored.len, place.hash, node));
     return OK;
@@ -439,7 +439,7 @@ static fault rename_to(const struct path *from, const struct path *to) {
     const struct node *node = &nodes[entry->node], *into = &nodes[new_dir];
     if (past && node->kind == DIR) return INVAL;
     if (into->encrypted && (!node->encrypted || memcmp(into->context, node->context, POLICY))) return XDEV;
-    if (new_dir != dir && into->dir.count >= MOST_ENTRIES) return NO_SPACE;
+    if (new_dir != dir && into->dir.count >= MAX_ENTRIES) return NO_SPACE;
     struct entry *moved = new_entry(place.stored.bytes, place.stored.len, place.hash, entry->node);
     *slot = gone;
     nodes[dir].dir.count--;
@@ -595,7 +595,7 @@ static void move_there_and_back(long count) {
 
 static void tell_names(bool encrypted, long count) {
     struct path top = top_path();
-    set_up(encrypted, MOST_ENTRIES);
+    set_up(encrypted, MAX_ENTRIES);
     for (long run = 0; run < count; run++) {
         struct listing told;
         need(list(&top, PAGE_START, &told));
@@ -634,7 +634,7 @@ static int check(void) {
 static uint32_t number_of(const char *name, const char *family) {
     size_t len = strlen(family);
     long number = strncmp(name, family, len) == 0 ? atol(name + len) : 0;
-    return number > 0 && number <= MOST_ENTRIES ? (uint32_t)number : 0;
+    return number > 0 && number <= MAX_ENTRIES ? (uint32_t)number : 0;
 }
 
 int main(int argc, char **argv) {

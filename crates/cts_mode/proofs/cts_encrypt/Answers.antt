@@ -17,16 +17,16 @@ use Rattle.cts_mode.proofs.cts_encrypt.Goals as goal
 pub returns-then-text-eq16 : goal.returns-then-text-eq16
 unfolding first_blocks cts_encrypted
 returns-then-text-eq16 c =
-    let encipher : List ℕ → List ℕ = encrypted_block c.args.key.now in
+    let encrypt : List ℕ → List ℕ = encrypted_block c.args.key.now in
     let one : length c.args.text.now / 16 ≡ 1 = omega arith in
     c.chain.ensures.blocks
-    ∙ ap (first_blocks (λ j. cbc_block encipher c.args.iv c.args.text.now (suc j))) one
-    ∙ sym (cs3_encrypted_short encipher c.args.iv c.args.text.now c.if-text-eq16.true)
+    ∙ ap (first_blocks (λ j. cbc_block encrypt c.args.iv c.args.text.now (suc j))) one
+    ∙ sym (cs3_encrypted_short encrypt c.args.iv c.args.text.now c.if-text-eq16.true)
 
 pub returns : goal.returns
 unfolding cts_encrypted
 returns c =
-    let encipher : List ℕ → List ℕ = encrypted_block c.args.key.now in
+    let encrypt : List ℕ → List ℕ = encrypted_block c.args.key.now in
     let text = c.args.text.now in
     let iv = c.args.iv in
     let r : ℕ = (length text - 1) / 16 - 1 in
@@ -34,26 +34,26 @@ returns c =
     let end : 16 * ((length text - 1) / 16) ≡ 16 * (r + 1) = omega (arith, cut.more) in
     let front : c.split_at_mut-blocks.result.0.now ≡ whole_blocks text r cut = c.split_at_mut-blocks.ensures.front ∙ ap (λ n. take n text) end in
     let piece : c.split_at_mut-blocks.result.1.now ≡ last_piece text r cut = c.split_at_mut-blocks.ensures.back ∙ ap (λ n. drop n text) end in
-    let block : ℕ → List ℕ = λ j. cbc_block encipher iv (whole_blocks text r cut) (suc j) in
+    let block : ℕ → List ℕ = λ j. cbc_block encrypt iv (whole_blocks text r cut) (suc j) in
     let count : length (whole_blocks text r cut) / 16 ≡ r + 1 = omega (arith, length-whole_blocks text r cut) in
     let blocks : c.chain-stolen.new.text ≡ first_blocks block (r + 1)
     = c.chain-stolen.ensures.blocks
-    ∙ ap (λ (xs : List ℕ). first_blocks (λ j. cbc_block encipher iv xs (suc j)) (length xs / 16)) front
+    ∙ ap (λ (xs : List ℕ). first_blocks (λ j. cbc_block encrypt iv xs (suc j)) (length xs / 16)) front
     ∙ ap (first_blocks block) count in
-    let stolen : c.chain-stolen.result ≡ cbc_block encipher iv (whole_blocks text r cut) (r + 1)
+    let stolen : c.chain-stolen.result ≡ cbc_block encrypt iv (whole_blocks text r cut) (r + 1)
     = c.chain-stolen.ensures.last
-    ∙ ap (λ (xs : List ℕ). cbc_block encipher iv xs (length xs / 16)) front
-    ∙ ap (cbc_block encipher iv (whole_blocks text r cut)) count in
-    let last : c.encrypt_block-final_block.result ≡ encipher (xor_bytes (zero_filled 16 (last_piece text r cut)) (cbc_block encipher iv (whole_blocks text r cut) (r + 1)))
+    ∙ ap (λ (xs : List ℕ). cbc_block encrypt iv xs (length xs / 16)) front
+    ∙ ap (cbc_block encrypt iv (whole_blocks text r cut)) count in
+    let last : c.encrypt_block-final_block.result ≡ encrypt (xor_bytes (zero_filled 16 (last_piece text r cut)) (cbc_block encrypt iv (whole_blocks text r cut) (r + 1)))
     = c.encrypt_block-final_block.ensures
-    ∙ ap encipher (c.xor.ensures ∙ (λ i. xor_bytes ((c.filled.ensures ∙ ap (zero_filled 16) piece) i) (stolen i))) in
-    let sizes : (j : ℕ) → length (block j) ≡ 16 = length-cbc_block encipher iv (whole_blocks text r cut) (length-encrypted_block c.args.key.now) in
+    ∙ ap encrypt (c.xor.ensures ∙ (λ i. xor_bytes ((c.filled.ensures ∙ ap (zero_filled 16) piece) i) (stolen i))) in
+    let sizes : (j : ℕ) → length (block j) ≡ 16 = length-cbc_block encrypt iv (whole_blocks text r cut) (length-encrypted_block c.args.key.now) in
     let whole : length c.chain-stolen.new.text ≡ 16 * (r + 1) = ap length blocks ∙ length-first_blocks 16 block (r + 1) sizes in
     let over : put_mid (16 * ((length text - 1) / 16) - 16) (length c.chain-stolen.new.text - (16 * ((length text - 1) / 16) - 16)) c.chain-stolen.new.text c.copy_from_slice-2.new.self
     ≡ first_blocks block r ++ c.copy_from_slice-2.new.self
     = last_over block r (16 * ((length text - 1) / 16) - 16) (length c.chain-stolen.new.text - (16 * ((length text - 1) / 16) - 16)) c.chain-stolen.new.text c.copy_from_slice-2.new.self
     sizes blocks (omega (arith, end)) (omega (arith, end, whole)) in
-    let left : c.copy_from_slice.new.self ≡ take (length (last_piece text r cut)) (cbc_block encipher iv (whole_blocks text r cut) (r + 1))
+    let left : c.copy_from_slice.new.self ≡ take (length (last_piece text r cut)) (cbc_block encrypt iv (whole_blocks text r cut) (r + 1))
     = c.copy_from_slice.ensures.after ∙ (λ i. take (length (piece i)) (stolen i)) in
     (λ i. (over ∙ ap (λ zs. first_blocks block r ++ zs) (c.copy_from_slice-2.ensures.after ∙ last)) i ++ left i)
-    ∙ sym (stealing_is text r cut encipher iv) ∙ sym (cs3_encrypted_long encipher iv text r cut)
+    ∙ sym (stealing_is text r cut encrypt iv) ∙ sym (cs3_encrypted_long encrypt iv text r cut)

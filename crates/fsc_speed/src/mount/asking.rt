@@ -33,7 +33,7 @@ pub(crate) fn run_alone(
 
 /// The part of a reply that is examined.
 #[derive(Clone, Copy)]
-pub(crate) enum Came {
+pub(crate) enum ReplyValue {
     /// A file was opened, under this handle.
     Opened(u32),
     /// Nothing was done.
@@ -42,11 +42,11 @@ pub(crate) enum Came {
 }
 
 /// Returns that part of this reply.
-pub(crate) fn what_came(reply: &Reply) -> Came {
+pub(crate) fn reply_value(reply: &Reply) -> ReplyValue {
     match reply {
-        Reply::Opened(handle) => Came::Opened(*handle),
-        Reply::Refused(_) => Came::Refused,
-        _ => Came::Other,
+        Reply::Opened(handle) => ReplyValue::Opened(*handle),
+        Reply::Refused(_) => ReplyValue::Refused,
+        _ => ReplyValue::Other,
     }
 }
 
@@ -104,7 +104,7 @@ impl Asked {
             return;
         }
         for _ in 0..count {
-            if let Came::Opened(handle) = self.ask(open) {
+            if let ReplyValue::Opened(handle) = self.ask(open) {
                 self.ask(&call(Op::Close { handle }));
             }
         }
@@ -118,13 +118,13 @@ impl Asked {
         }
     }
 
-    fn ask(&mut self, call: &Call) -> Came
+    fn ask(&mut self, call: &Call) -> ReplyValue
         requires { Fits call.now }
     {
-        let came = what_came(&self.mount.answer(0, call).finish());
-        if let Came::Refused = came {
+        let after_calls = reply_value(&self.mount.answer(0, call).finish());
+        if let ReplyValue::Refused = after_calls {
             self.refused = self.refused.saturating_add(1);
         }
-        came
+        after_calls
     }
 }

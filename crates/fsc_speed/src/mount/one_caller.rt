@@ -3,7 +3,7 @@ ghost use Rattle.std.specs.Prelude.{◌≡◌};
 ghost use Rattle.mount_model.specs.Fits.{Fits};
 
 use crate::directories::id_of_key;
-use crate::mount::asking::{Came, what_came};
+use crate::mount::asking::{ReplyValue, reply_value};
 use crate::mount::calls::{OnPath, read, status};
 use crate::mount::table::{ALL_OPEN, ONE_BLOCK};
 use crate::mount::work::push_before;
@@ -73,12 +73,12 @@ impl Asking {
         ensures { (pass.new.table ≡ pass.old.table) × (pass.new.who ≡ pass.old.who)
             × (pass.new.high ≡ pass.old.high) }
     {
-        let came = match self.subject {
-            Subject::Status => Came::Opened(0),
+        let after_calls = match self.subject {
+            Subject::Status => ReplyValue::Opened(0),
             Subject::Read => open_first(rt, self.alloc, shared, pass)?,
         };
-        match came {
-            Came::Opened(handle) => Ok(self.ask_with(rt, shared, pass, handle)),
+        match after_calls {
+            ReplyValue::Opened(handle) => Ok(self.ask_with(rt, shared, pass, handle)),
             _ => Ok(u64::from(self.calls)),
         }
     }
@@ -98,7 +98,7 @@ impl Asking {
         let id = id_of_key();
         let mut refused = 0u64;
         for _ in 0..self.calls {
-            if let Came::Refused = ask_fitting(rt, shared, pass, &self.call(handle, id)) {
+            if let ReplyValue::Refused = ask_fitting(rt, shared, pass, &self.call(handle, id)) {
                 refused = refused.saturating_add(1);
             }
         }
@@ -112,7 +112,7 @@ fn open_first<W: Wait, M: MountMachine>(
     alloc: Global,
     shared: &Shared<M>,
     pass: &mut Pass<M>,
-) -> Result<Came, AllocError>
+) -> Result<ReplyValue, AllocError>
     requires { pass.old.table ≡ shared.now.table }
     ensures { (pass.new.table ≡ pass.old.table) × (pass.new.who ≡ pass.old.who)
         × (pass.new.high ≡ pass.old.high) }
@@ -133,7 +133,7 @@ fn ask_each<W: Wait, M: MountMachine>(
 {
     let mut refused = 0u64;
     for call in calls {
-        if let Came::Refused = ask(rt, shared, pass, call) {
+        if let ReplyValue::Refused = ask(rt, shared, pass, call) {
             refused = refused.saturating_add(1);
         }
     }
@@ -147,13 +147,13 @@ fn ask<W: Wait, M: MountMachine>(
     shared: &Shared<M>,
     pass: &mut Pass<M>,
     call: &Call,
-) -> Came
+) -> ReplyValue
     requires { pass.old.table ≡ shared.now.table }
     ensures { (pass.new.table ≡ pass.old.table) × (pass.new.who ≡ pass.old.who)
         × (pass.new.high ≡ pass.old.high) }
 {
     if !call.fits() {
-        return Came::Refused;
+        return ReplyValue::Refused;
     }
     ask_fitting(rt, shared, pass, call)
 }
@@ -165,14 +165,14 @@ fn ask_fitting<W: Wait, M: MountMachine>(
     shared: &Shared<M>,
     pass: &mut Pass<M>,
     call: &Call,
-) -> Came
+) -> ReplyValue
     requires belongs { pass.old.table ≡ shared.now.table }
     requires fits { Fits call.now }
     ensures { (pass.new.table ≡ pass.old.table) × (pass.new.who ≡ pass.old.who)
         × (pass.new.high ≡ pass.old.high) }
 {
     match shared.call(rt, pass, call) {
-        Ok(at) => what_came(&at.reply),
-        Err(_) => Came::Refused,
+        Ok(at) => reply_value(&at.reply),
+        Err(_) => ReplyValue::Refused,
     }
 }

@@ -13,10 +13,10 @@
 #include <sys/syscall.h>
 #include <unistd.h>
 
-#define MOST_READ 65536
+#define MAX_READ 65536
 #define NAMES_OF_A_LISTING 128
 
-static char path[MOST_PATH], other[MOST_PATH + 2];
+static char path[MAX_PATH], other[MAX_PATH + 2];
 
 /* Asks for the policy, which has 24 bytes where it is of version 2, or -1. */
 static int policy_of(int descriptor, struct fscrypt_get_policy_ex_arg *policy)
@@ -224,11 +224,11 @@ static void tell_status(const struct call *call)
 	put("stat %s %d %ld enc=%d key=%c", kind, node_of(status.stx_ino), size, encrypted, encrypted ? key : '1');
 }
 
-static int handles[MOST_HANDLES];
+static int handles[MAX_HANDLES];
 
 void no_handles(void)
 {
-	for (int i = 0; i < MOST_HANDLES; i++)
+	for (int i = 0; i < MAX_HANDLES; i++)
 		handles[i] = -1;
 }
 
@@ -236,7 +236,7 @@ static int descriptor_of(const char *number)
 {
 	unsigned long handle = strtoul(number, NULL, 10);
 
-	return handle < MOST_HANDLES ? handles[handle] : -1;
+	return handle < MAX_HANDLES ? handles[handle] : -1;
 }
 
 static void open_node(const struct call *call)
@@ -252,7 +252,7 @@ static void open_node(const struct call *call)
 		return;
 	}
 	put("handle %lu%s", handle, directory ? "\tdir:1" : "");
-	if (call->expected && handle < MOST_HANDLES) {
+	if (call->expected && handle < MAX_HANDLES) {
 		handles[handle] = descriptor;
 	} else {
 		taken_back(close(descriptor));
@@ -262,7 +262,7 @@ static void open_node(const struct call *call)
 
 static void read_file(const struct call *call)
 {
-	static char bytes[MOST_READ];
+	static char bytes[MAX_READ];
 	size_t asked = strtoul(call->words[2], NULL, 10);
 	ssize_t length = pread(descriptor_of(call->words[0]), bytes, asked < sizeof bytes ? asked : sizeof bytes,
 			       strtoll(call->words[1], NULL, 10));
@@ -279,7 +279,7 @@ static void read_file(const struct call *call)
  * at the end. */
 static void write_file(const struct call *call)
 {
-	static unsigned char bytes[MOST_LINE];
+	static unsigned char bytes[MAX_LINE];
 	int descriptor = descriptor_of(call->words[0]);
 	off_t at = strtoll(call->words[1], NULL, 10);
 	ssize_t length, result;
@@ -313,7 +313,7 @@ static void close_handle(const struct call *call)
 	int result = close(descriptor_of(call->words[0]));
 
 	done(call, result, errno);
-	if (handle < MOST_HANDLES)
+	if (handle < MAX_HANDLES)
 		handles[handle] = -1;
 	shared->closed = true;
 }
@@ -339,10 +339,10 @@ static const struct { const char *name; int paths; void (*make)(const struct cal
 /* Makes the call of a line, and puts its line of the log. */
 void answer(char *line)
 {
-	char *words[MOST_WORDS];
+	char *words[MAX_WORDS];
 	size_t verb = 0;
 
-	split(line, words, MOST_WORDS);
+	split(line, words, MAX_WORDS);
 	struct call call = { .expected = !strcmp(words[3], "ok"), .verb = words[5], .words = words + 6 };
 	put("%s = ", words[4]);
 	while (verb < sizeof VERBS / sizeof *VERBS && strcmp(VERBS[verb].name, call.verb))

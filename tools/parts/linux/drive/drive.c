@@ -36,11 +36,11 @@
 #include <sys/wait.h>
 #include <unistd.h>
 
-#define MOST_CALLERS 8
+#define MAX_CALLERS 8
 
 struct shared *shared;
 
-static struct { pid_t process; int to, from; } callers[MOST_CALLERS];
+static struct { pid_t process; int to, from; } callers[MAX_CALLERS];
 
 /* A caller's process: it answers a call for each byte that it reads. */
 static void serve(unsigned user, int from, int to)
@@ -86,7 +86,7 @@ static void start_caller(int caller, unsigned user)
 
 static void stop_callers(void)
 {
-	for (int i = 0; i < MOST_CALLERS; i++) {
+	for (int i = 0; i < MAX_CALLERS; i++) {
 		if (!callers[i].process)
 			continue;
 		close(callers[i].to);
@@ -118,7 +118,7 @@ static FILE *answers;
 /* Linux asks for an owner, of whom the mount knows nothing. */
 static void give_to_caller(const char *text, unsigned user)
 {
-	static char path[MOST_PATH];
+	static char path[MAX_PATH];
 	struct stat status;
 
 	resolve(mounted, text, path);
@@ -147,11 +147,11 @@ static void begin_script(const char *line)
 /* Has a caller answer, and returns whether the script goes on. */
 static bool make_call(const char *line, bool settles)
 {
-	static char copy[MOST_LINE];
-	char *words[MOST_WORDS], byte;
+	static char copy[MAX_LINE];
+	char *words[MAX_WORDS], byte;
 	int caller;
 
-	split(strcpy(copy, line), words, MOST_WORDS);
+	split(strcpy(copy, line), words, MAX_WORDS);
 	caller = atoi(words[1]);
 	if (!strcmp(words[5], "set-policy"))
 		give_to_caller(words[6], strtoul(words[2], NULL, 10));
@@ -175,7 +175,7 @@ static bool make_call(const char *line, bool settles)
 
 static int set_up(char **names)
 {
-	struct rlimit files = { MOST_HANDLES + 100, MOST_HANDLES + 100 };
+	struct rlimit files = { MAX_HANDLES + 100, MAX_HANDLES + 100 };
 
 	shared = mmap(NULL, sizeof *shared, PROT_READ | PROT_WRITE, MAP_SHARED | MAP_ANONYMOUS, -1, 0);
 	answers = fopen(names[3], "r+");
@@ -187,7 +187,7 @@ static int set_up(char **names)
 
 int main(int count, char **names)
 {
-	static char line[MOST_LINE];
+	static char line[MAX_LINE];
 	bool mounted = false, settles = true, goes_on = true;
 	long scripts = 0;
 	int caller;

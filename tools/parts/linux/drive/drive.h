@@ -7,24 +7,24 @@
 #include <stddef.h>
 #include <sys/types.h>
 
-#define MOST_LINE (1 << 20)
-#define MOST_PATH 70000
-#define MOST_NODES 70000
-#define MOST_HANDLES 8192
-#define MOST_KEYS 256
-#define MOST_WORDS 16
+#define MAX_LINE (1 << 20)
+#define MAX_PATH 70000
+#define MAX_NODES 70000
+#define MAX_HANDLES 8192
+#define MAX_KEYS 256
+#define MAX_WORDS 16
 #define ID_BYTES 16
 
 /* What the callers' processes and their parent share. */
 struct shared {
-	char line[MOST_LINE];              /* the call, as it was read */
-	char out[2 * MOST_LINE];           /* its answer */
+	char line[MAX_LINE];              /* the call, as it was read */
+	char out[2 * MAX_LINE];           /* its answer */
 	int written;
 	bool cut, closed, drop;            /* the script ends; a file was closed; caches are to go */
-	ino_t inode[MOST_NODES];           /* of a node, by the mount's number */
-	char name[MOST_NODES][256];        /* the plain name that it had last */
+	ino_t inode[MAX_NODES];           /* of a node, by the mount's number */
+	char name[MAX_NODES][256];        /* the plain name that it had last */
 	int nodes;
-	unsigned char key[MOST_KEYS][ID_BYTES];
+	unsigned char key[MAX_KEYS][ID_BYTES];
 	int keys;
 };
 extern struct shared *shared;

@@ -23,7 +23,7 @@ static void note_key(const unsigned char *identifier)
 	for (int i = 0; i < shared->keys; i++)
 		if (!memcmp(shared->key[i], identifier, ID_BYTES))
 			return;
-	if (shared->keys < MOST_KEYS)
+	if (shared->keys < MAX_KEYS)
 		memcpy(shared->key[shared->keys++], identifier, ID_BYTES);
 }
 

@@ -73,7 +73,7 @@ void learn(int node, const char *path)
 {
 	struct stat status;
 
-	if (node < 0 || node >= MOST_NODES || lstat(path, &status))
+	if (node < 0 || node >= MAX_NODES || lstat(path, &status))
 		return;
 	shared->inode[node] = status.st_ino;
 	if (node >= shared->nodes)
@@ -86,7 +86,7 @@ static bool put_listed(const char *directory, int node, char *end)
 {
 	struct entry *entries;
 	int descriptor = open_directory(*directory ? directory : "/");
-	int count = descriptor < 0 || node >= MOST_NODES ? -1 : read_entries(descriptor, &entries);
+	int count = descriptor < 0 || node >= MAX_NODES ? -1 : read_entries(descriptor, &entries);
 	bool found = false;
 
 	for (int i = 0; i < count && !found; i++) {
@@ -125,7 +125,7 @@ void resolve(const char *prefix, const char *text, char *path)
 /* Whether a link stands within the path, before its last part. */
 bool through_link(const char *path)
 {
-	static char above[MOST_PATH];
+	static char above[MAX_PATH];
 	struct open_how how = { .flags = O_PATH | O_DIRECTORY, .resolve = RESOLVE_NO_SYMLINKS };
 	int descriptor;
 

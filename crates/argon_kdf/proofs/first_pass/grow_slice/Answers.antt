@@ -10,7 +10,7 @@ use Rattle.argon_kdf.specs.SeenBlocks.{block_at}
 use Rattle.argon_kdf.specs.Tables.{Table}
 use Rattle.argon_kdf.specs.Filling.{with_lanes, with_places}
 use Rattle.argon_kdf.specs.Memory.{Shows}
-use Rattle.argon_kdf.specs.Segments.{Begun}
+use Rattle.argon_kdf.specs.Segments.{BeginsSegment}
 use Rattle.argon_kdf.proofs.AloneLemmas.{Shows_placed}
 use Rattle.argon_kdf.proofs.SegmentLemmas.{Begun_start}
 use Rattle.argon_kdf.proofs.SliceLemmas.{appended_here, appended_other, block_in, block_same, each_segment}
@@ -20,7 +20,7 @@ use Rattle.argon_kdf.proofs.first_pass.grow_slice.Goals as goal
 -- memory followed by the new segments
 grown : (x : Shape) (h0 : List ℕ) (m : List (List (List (List ℕ)))) (new : List (Vec (List ℕ) Global)) (b : Table)
     (s : ℕ) → 2 ≤ x.width → s < 4 → HasSlices x s m → length new ≡ x.lanes
-    → ((l : ℕ) (d : Vec (List ℕ) Global) (k : ℕ) → l < x.lanes → k < x.width → Begun x m [] b (place 0 s l 0)
+    → ((l : ℕ) (d : Vec (List ℕ) Global) (k : ℕ) → l < x.lanes → k < x.width → BeginsSegment x m [] b (place 0 s l 0)
     → slice_index_or (slice_index_or new l d).items k zero_block
     ≡ with_places x h0 b 0 s l x.width 0 l (s * x.width + k))
     → Shows x (block_at x m) b (place 0 s 0 0)

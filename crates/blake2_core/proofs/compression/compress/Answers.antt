@@ -1,5 +1,5 @@
 use Rattle.std.proofs.Common.{ℕ, List, ap, ◌∙◌, sym}
-use Rattle.blake2_core.specs.Compression.{compressed, folded, work_vector}
+use Rattle.blake2_core.specs.Compression.{compressed, fold_halves, work_vector}
 use Rattle.blake2_core.specs.Mixing.{rounds}
 use Rattle.blake2_core.proofs.Rounds.{rounds_start, rounds_step}
 use Rattle.blake2_core.proofs.compression.compress.Goals as goal
@@ -22,4 +22,4 @@ returns c =
     let e10 = rounds_step w v _ _ 9 e9 c.mix_round-v-10.ensures in
     let e11 = rounds_step w v _ _ 10 e10 c.mix_round-v-11.ensures in
     let e12 = rounds_step w v _ _ 11 e11 c.mix_round-v-12.ensures in
-    c.fold.ensures ∙ ap (folded c.args.state.now) (e12 ∙ ap (λ (words : List ℕ). rounds words v 12) c.words_of-m.ensures)
+    c.fold.ensures ∙ ap (fold_halves c.args.state.now) (e12 ∙ ap (λ (words : List ℕ). rounds words v 12) c.words_of-m.ensures)

@@ -20,20 +20,20 @@ loop-j-init c =
 
 pub loop-j-preserved : goal.loop-j-preserved
 loop-j-preserved c =
-    let encipher : List ℕ → List ℕ = encrypted_block c.args.key.now in
+    let encrypt : List ℕ → List ℕ = encrypted_block c.args.key.now in
     let j = c.loop-j.j in
     let was = c.args.text.now in
-    let block : ℕ → List ℕ = λ n. cbc_block encipher c.args.iv was (suc n) in
-    let sizes : (n : ℕ) → length (block n) ≡ 16 = length-cbc_block encipher c.args.iv was (length-encrypted_block c.args.key.now) in
+    let block : ℕ → List ℕ = λ n. cbc_block encrypt c.args.iv was (suc n) in
+    let sizes : (n : ℕ) → length (block n) ≡ 16 = length-cbc_block encrypt c.args.iv was (length-encrypted_block c.args.key.now) in
     let read : c.block_from.result ≡ block_at 16 was j
     = c.block_from.ensures ∙ between-block_at 16 c.loop-j.text j (16 * j) (16 * j + 16) refl refl
     ∙ read_in_place 16 block j c.loop-j.text was sizes c.loop-j.invariant.replaced in
-    let made : c.encrypt_block-previous.result ≡ encipher (xor_bytes (block_at 16 was j) (cbc_block encipher c.args.iv was j))
-    = c.encrypt_block-previous.ensures ∙ ap encipher (c.xor.ensures ∙ (λ i. xor_bytes (read i) (c.loop-j.invariant.last i))) in
+    let made : c.encrypt_block-previous.result ≡ encrypt (xor_bytes (block_at 16 was j) (cbc_block encrypt c.args.iv was j))
+    = c.encrypt_block-previous.ensures ∙ ap encrypt (c.xor.ensures ∙ (λ i. xor_bytes (read i) (c.loop-j.invariant.last i))) in
     record {
-      last = made ∙ sym (cbc_block_next encipher c.args.iv was j);
+      last = made ∙ sym (cbc_block_next encrypt c.args.iv was j);
       replaced = write_in_place 16 block j (16 * j) (16 * j + 16 - 16 * j) c.loop-j.text was c.copy_from_slice.new.self sizes refl (omega arith) c.loop-j.invariant.replaced
-          (c.copy_from_slice.ensures.after ∙ made ∙ sym (cbc_block_suc encipher c.args.iv was j));
+          (c.copy_from_slice.ensures.after ∙ made ∙ sym (cbc_block_suc encrypt c.args.iv was j));
     }
 
 pub returns-clause-blocks : goal.returns-clause-blocks

@@ -21,12 +21,12 @@ loop-j-init c =
 pub loop-j-preserved : goal.loop-j-preserved
 unfolding plain_block
 loop-j-preserved c =
-    let decipher : List ℕ → List ℕ = decrypted_block c.args.key.now in
+    let decrypt : List ℕ → List ℕ = decrypted_block c.args.key.now in
     let j = c.loop-j.j in
     let was = c.args.text.now in
-    let block : ℕ → List ℕ = plain_block decipher c.args.iv was in
+    let block : ℕ → List ℕ = plain_block decrypt c.args.iv was in
     let front : length (first_blocks block j) ≡ 16 * j
-    = length_front 16 block j (λ n low. length-plain_block decipher c.args.iv was (length-decrypted_block c.args.key.now) n j (omega arith) (omega arith) (omega arith)) in
+    = length_front 16 block j (λ n low. length-plain_block decrypt c.args.iv was (length-decrypted_block c.args.key.now) n j (omega arith) (omega arith) (omega arith)) in
     let read : c.block_from-block.result ≡ block_at 16 was j
     = c.block_from-block.ensures ∙ between-block_at 16 c.loop-j.text j (16 * j) (16 * j + 16) refl refl
     ∙ read_front 16 block j c.loop-j.text was front c.loop-j.invariant.replaced in
@@ -35,7 +35,7 @@ loop-j-preserved c =
       before = read ∙ ap (block_before c.args.iv was) next;
       replaced = write_front 16 block j (16 * j) (16 * j + 16 - 16 * j) c.loop-j.text was c.copy_from_slice.new.self front refl (omega arith) c.loop-j.invariant.replaced
           (c.copy_from_slice.ensures.after ∙ c.xor-plain.ensures
-          ∙ (λ i. xor_bytes ((c.decrypt_block.ensures ∙ ap decipher read) i) (c.loop-j.invariant.before i)));
+          ∙ (λ i. xor_bytes ((c.decrypt_block.ensures ∙ ap decrypt read) i) (c.loop-j.invariant.before i)));
     }
 
 pub returns : goal.returns

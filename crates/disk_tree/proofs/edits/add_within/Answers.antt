@@ -6,9 +6,9 @@ use Rattle.disk_tree.specs.Entries.{with_entry}
 use Rattle.disk_tree.proofs.NodeLemmas.{body_changed, body_kept}
 use Rattle.disk_tree.proofs.edits.add_within.Goals as goal
 
-pub returns-then-entry_count-ge-MOST_CHILDREN-clause-kept :
-    goal.returns-then-entry_count-ge-MOST_CHILDREN-clause-kept
-returns-then-entry_count-ge-MOST_CHILDREN-clause-kept c = insert_same c.args.nodes.now c.args.dir c.in-Some.node.now (sym c.in-Some.ensures.value)
+pub returns-then-entry_count-ge-MAX_CHILDREN-clause-kept :
+    goal.returns-then-entry_count-ge-MAX_CHILDREN-clause-kept
+returns-then-entry_count-ge-MAX_CHILDREN-clause-kept c = insert_same c.args.nodes.now c.args.dir c.in-Some.node.now (sym c.in-Some.ensures.value)
 
 pub returns-in-Ok-clause-put : goal.returns-in-Ok-clause-put
 returns-in-Ok-clause-put c = body_changed c.args.nodes.now c.args.dir c.in-Some.node.now c.add_entry.new.self (sym c.in-Some.ensures.value) (with_entries (with_entry c.args.name.now c.args.number)) c.in-Ok.ensures.put

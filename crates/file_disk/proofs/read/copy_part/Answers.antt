@@ -4,7 +4,7 @@ use Rattle.std.specs.Prelude.{Option, min}
 use Rattle.data_crypt.specs.Blocks.{Seal}
 use Rattle.data_crypt.specs.Parts.{content_of}
 use Rattle.file_disk.specs.Keys.{seal_of}
-use Rattle.file_disk.specs.Lent.{whole_size}
+use Rattle.file_disk.specs.Pending.{whole_size}
 use Rattle.file_disk.proofs.ReadLemmas.{read_nothing, read_part}
 use Rattle.file_disk.proofs.read.copy_part.Goals.{then-offset-size-via-then-offset-size}
 use Rattle.file_disk.proofs.read.copy_part.Goals.{then-offset-size-via-else-offset-size+then-len-eq0}

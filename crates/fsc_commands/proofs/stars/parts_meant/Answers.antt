@@ -9,10 +9,10 @@ use Rattle.fsc_commands.proofs.stars.parts_meant.Goals as goal
 pub parts-preserved : goal.parts-preserved
 parts-preserved c =
     let pushed : c.push.new.self ≡ c.parts.meant ++ c.in_ok-bytes.bytes ∷ [] = c.in_ok-push.ensures.appended ∙ ap (λ part. c.parts.meant ++ part ∷ []) c.new.ensures in
-    let told : c.parts.meant ++ c.in_ok-bytes.bytes ∷ [] ≡ map (spec.part_meant (names_in c.args.told.now)) (take (c.parts.part-index + 1) c.args.parts.now) =
+    let told : c.parts.meant ++ c.in_ok-bytes.bytes ∷ [] ≡ map (spec.resolved_part (names_in c.args.told.now)) (take (c.parts.part-index + 1) c.args.parts.now) =
     ap (λ bytes. c.parts.meant ++ bytes ∷ []) c.in_ok-bytes.ensures.value
-    ∙ ap (λ meant. meant ++ spec.part_meant (names_in c.args.told.now) c.part-item.result ∷ []) c.parts.invariant.told
-    ∙ sym (parts-more (spec.part_meant (names_in c.args.told.now)) c.args.parts.now c.parts.part-index c.part-item.result (omega arith) c.part-item.is) in
+    ∙ ap (λ meant. meant ++ spec.resolved_part (names_in c.args.told.now) c.part-item.result ∷ []) c.parts.invariant.told
+    ∙ sym (parts-more (spec.resolved_part (names_in c.args.told.now)) c.args.parts.now c.parts.part-index c.part-item.result (omega arith) c.part-item.is) in
     let P : List (List ℕ) → Type 0 = λ meant. All IsPart meant in
     record {
       told = pushed ∙ told;

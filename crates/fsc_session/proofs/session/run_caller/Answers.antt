@@ -17,7 +17,7 @@ returns-in_err-step-clause-failed g c =
       told = so.placed;
       made = more.made;
       rest = more.rest;
-      came_by = g.met.P.MountPort.by_more c.args.port.now c.commands.port c.step.new.port so.placed more.made so.came_by more.came_by;
+      reached_by_call = g.met.P.MountPort.by_more c.args.port.now c.commands.port c.step.new.port so.placed more.made so.reached_by_call more.reached_by_call;
       own = (i.caller, i.section);
       has_run = so.has_run;
       begins = more.begins;
@@ -43,7 +43,7 @@ commands-preserved g c =
       section = made.section ∙ i.section;
       next = next_after c.args.seed.now _ c.commands.runner c.step.new.self made.made made.step (omega (arith, at, below, all)) ∙ ap (λ n. n + 1) at;
       room = omega (arith, few, counted, room);
-      ran = so_far_goes_on g.P.MountPort.came g.met.P.MountPort.by_more c.args.port.now c.commands.port c.step.new.port
+      ran = so_far_goes_on g.P.MountPort.after_calls g.met.P.MountPort.by_more c.args.port.now c.commands.port c.step.new.port
           (g.P.MountPort.calls_left c.step.new.port) (g.P.MountPort.calls_left c.commands.port) (g.P.MountPort.calls_left c.args.port.now)
           c.args.seed.now _ c.commands.runner c.step.new.self i.ran made;
     }
@@ -59,7 +59,7 @@ returns-clause-ran g c =
     let so = i.ran in
     record {
       placed = so.placed;
-      came_by = so.came_by;
+      reached_by_call = so.reached_by_call;
       shown = c.ran.ensures.entries ∙ so.has_run.shown;
       run = subst (λ section. IsRunOfSection seed (g.P.MountPort.who c.args.port.now) section so.placed) i.section
           (subst (λ caller. IsRunOfSection seed caller runner.section so.placed) i.caller

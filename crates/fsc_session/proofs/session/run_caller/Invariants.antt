@@ -1,5 +1,5 @@
 use Rattle.std.proofs.Common.{◌≡◌, ◌≤◌, ◌+◌, ◌*◌}
-use Rattle.fsc_session.specs.PortRuns.{RanSoFar}
+use Rattle.fsc_session.specs.PortRuns.{RunSoFar}
 use Rattle.fsc_session.proofs.session.run_caller.Given as goal
 
 abbrev pub invariant-commands : goal.invariant-commands
@@ -9,5 +9,5 @@ invariant-commands g l = record {
   section : l.runner.section ≡ l.section;
   next : l.runner.next ≡ l.number;
   room : g.P.MountPort.calls_left l.fn.port ≤ g.P.MountPort.calls_left l.port + 4 * l.number;
-  ran : RanSoFar (g.P.MountPort.came l.fn.port) l.port (g.P.MountPort.calls_left l.port) (g.P.MountPort.calls_left l.fn.port) l.seed l.runner;
+  ran : RunSoFar (g.P.MountPort.after_calls l.fn.port) l.port (g.P.MountPort.calls_left l.port) (g.P.MountPort.calls_left l.fn.port) l.seed l.runner;
 }

@@ -11,4 +11,4 @@ returns-clause-linked g c =
     (rw c.deref.ensures (rw c.deref-2.ensures c.in-Ok.ensures.prepared))
     (linked_apart_is _ _ c.deref-2.result.now.seed c.deref.result.now.script c.in-Ok-ran.told.even.items c.in-Ok-ran.told.odd.items c.in-Ok-ran.told.notes.items
     c.in-Ok-ran.ensures)
-    c.finish_linked.ensures
+    c.finish_linked_replay.ensures

@@ -1,6 +1,6 @@
 use Rattle.std.proofs.Common.{◌≡◌, ◌==◌, ◌+◌, ◌-◌, ◌++◌, refl, length, append-nil, sym, ap, ◌∙◌, arith, map}
 use Rattle.text_words.specs.Lines.{pieces_of}
-use Rattle.image_lines.specs.Told.{nodes_at}
+use Rattle.image_lines.specs.WordForms.{nodes_at}
 use Rattle.image_lines.specs.Places.{node_of_place}
 use Rattle.image_lines.proofs.RoundLemmas.{at_next, at_fault, at_piece, at_end, one_more, none_left, on_at, placed_more, placed_none, shorter, dropped}
 use Rattle.image_lines.proofs.round_of_lines.node_places.Goals as goal

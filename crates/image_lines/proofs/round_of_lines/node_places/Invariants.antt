@@ -1,6 +1,6 @@
 use Rattle.std.proofs.Common.{◌≡◌, ◌≤◌, ◌+◌, ◌-◌, ◌++◌, length, map, drop}
 use Rattle.text_words.specs.Lines.{pieces_of}
-use Rattle.image_lines.specs.Told.{nodes_at}
+use Rattle.image_lines.specs.WordForms.{nodes_at}
 use Rattle.image_lines.specs.LineFaults.{line_fault, line_fault_from}
 use Rattle.image_lines.specs.Places.{node_of_place, places_from, places_in}
 use Rattle.image_lines.proofs.round_of_lines.node_places.Given as goal

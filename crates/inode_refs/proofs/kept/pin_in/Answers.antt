@@ -1,7 +1,7 @@
 use Rattle.std.proofs.Common.{rules, ◌≡◌, ◌+◌, ◌<◌, ◌^◌, true, false, sym, ap, ◌∙◌, subst}
 use Rattle.std.specs.FinMap as map
-use Rattle.inode_refs.specs.Cached.{KeyMap}
-use Rattle.inode_refs.specs.Kept.{keys_of}
+use Rattle.inode_refs.specs.CacheMaps.{KeyMap}
+use Rattle.inode_refs.specs.CacheRules.{keys_of}
 use Rattle.inode_refs.proofs.CacheLemmas.{pins_seen, pins_more, taken_back, given_cached, key_there, no_key, pins_there, at_ok}
 use Rattle.inode_refs.proofs.UserLemmas.{not_both}
 use Rattle.inode_refs.proofs.kept.pin_in.Goals as goal

@@ -22,8 +22,8 @@ returns-in-Some-clause-held c =
     (ap (λ (m : ModeKey). let v : ModeKey = record { key = m.key; users = c.count_in.result + c.args.users } in v) c.deref_mut.ensures.value)
     (ap (λ n. n + c.args.users) c.count_in.ensures)
 
-pub returns-in-Err-clause-stands : goal.returns-in-Err-clause-stands
-returns-in-Err-clause-stands c = λ has. absurd (true≢false (sym has ∙ ap is_some (mode_kept c.args.modes.now c.args.id.now None c.in_default.ensures.value)))
+pub returns-in-Err-clause-represents : goal.returns-in-Err-clause-represents
+returns-in-Err-clause-represents c = λ has. absurd (true≢false (sym has ∙ ap is_some (mode_kept c.args.modes.now c.args.id.now None c.in_default.ensures.value)))
 
 pub returns-in-Ok-insert-clause-held : goal.returns-in-Ok-insert-clause-held
 returns-in-Ok-insert-clause-held c =
@@ -31,5 +31,5 @@ returns-in-Ok-insert-clause-held c =
     subst (λ (m : BTreeMap KeyId ModeBox). modes_of c.insert.new.self.entries ≡ with_users (modes_of m.entries) c.args.id.now c.args.key c.args.users) c.get_mut.follows.holds-at-none
     (held_first c.get_mut.follows.lender-at-none c.args.id.now c.insert.new.self c.in-Ok.mode c.args.key c.args.users c.args.users none c.in-Ok-insert.ensures.updates.0 c.in-Ok.ensures.ok)
 
-pub returns-clause-stands : goal.returns-clause-stands
-returns-clause-stands c = λ has. absurd (true≢false (sym has ∙ ap is_some (mode_kept c.args.modes.now c.args.id.now None c.in_default.ensures.value)))
+pub returns-clause-represents : goal.returns-clause-represents
+returns-clause-represents c = λ has. absurd (true≢false (sym has ∙ ap is_some (mode_kept c.args.modes.now c.args.id.now None c.in_default.ensures.value)))

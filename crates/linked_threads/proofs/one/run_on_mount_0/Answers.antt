@@ -1,7 +1,7 @@
 use Rattle.std.proofs.Common.{◌≡◌, sym, ◌∙◌, subst, arith}
 use Rattle.std.proofs.lemmas.Option.{slice_get_read}
-use Rattle.mount_shared.specs.SharedCalls.{MountPass, PassCame}
-use Rattle.script_runs.specs.InRange.{RangedCame}
+use Rattle.mount_shared.specs.SharedCalls.{MountPass, PassAfterCalls}
+use Rattle.script_runs.specs.InRange.{RangedAfterCalls}
 use Rattle.fsc_session.specs.Session.{IsRunOfSection, notes_of_section}
 use Rattle.linked_threads.specs.Threaded.{both}
 use Rattle.linked_threads.proofs.OneLemmas.{even_runs}
@@ -22,6 +22,6 @@ returns g c =
     (subst (λ (pass : MountPass). IsRunOfSection seed pass.who section placed) begun ran.run)
     (subst (λ (pass : MountPass). notes ≡ notes_of_section seed pass.who section placed) begun (c.into_vec-2.ensures ∙ ran.noted))
     c.back-even.result c.requires.even
-    (subst (λ new. RangedCame (PassCame g.M.Machine.lawful) c.args.callers.passes.even placed new) (sym ended)
-    (subst (λ old. RangedCame (PassCame g.M.Machine.lawful) old placed c.run_caller.new.port) begun ran.came_by))
+    (subst (λ new. RangedAfterCalls (PassAfterCalls g.M.Machine.lawful) c.args.callers.passes.even placed new) (sym ended)
+    (subst (λ old. RangedAfterCalls (PassAfterCalls g.M.Machine.lawful) old placed c.run_caller.new.port) begun ran.reached_by_call))
     c.who-caller.ensures.own c.into_vec.ensures c.new.ensures.items

@@ -1,8 +1,8 @@
 use Rattle.std.proofs.Common.{◌≡◌, ℕ, ◌<◌, ◌^◌, arith, true, eqb-true, length, sym, subst}
 use Rattle.std.specs.Prelude.{◌==◌}
-use Rattle.reply_text.specs.Shown.{shown_history}
+use Rattle.reply_text.specs.Logged.{logged_history}
 use Rattle.turn_lock.specs.Passes.{merged_entries}
-use Rattle.linked_threads.specs.LinkedThreads.{TellsLinkedCalls}
+use Rattle.linked_threads.specs.LinkedThreads.{IsLinkedLogOfCalls}
 use Rattle.linked_threads.specs.Threaded.{CanRunOnBoth, HaveRun, both}
 use Rattle.script_runs.specs.Passes.{calls_of}
 use Rattle.script_runs.proofs.PassLemmas.{positive}
@@ -43,12 +43,12 @@ returns g c =
     let in_order = c.in_ok-put_in_order.ensures in
     let evens = c.put_in_order.new.told.even in
     let odds = c.put_in_order.new.told.odd in
-    subst (λ notes. TellsLinkedCalls g.M.Machine.lawful g.N.Machine.lawful seed script c.put_in_order.new.told.even.items c.put_in_order.new.told.odd.items notes.items) (sym c.put_in_order.ensures.notes)
+    subst (λ notes. IsLinkedLogOfCalls g.M.Machine.lawful g.N.Machine.lawful seed script c.put_in_order.new.told.even.items c.put_in_order.new.told.odd.items notes.items) (sym c.put_in_order.ensures.notes)
     (tells_linked g.M.Machine.lawful g.N.Machine.lawful seed script old new told even odd ran first c.end.ensures.callers c.end-2.ensures.callers
     c.put_in_order.new.told.even.items c.put_in_order.new.told.odd.items
-    (in_order.even (shown_history even)
+    (in_order.even (logged_history even)
     (told_even g.M.Machine.lawful g.N.Machine.lawful seed script old new told even odd ran first c.end.ensures.callers c.end-2.ensures.callers))
-    (in_order.odd (shown_history odd)
+    (in_order.odd (logged_history odd)
     (told_odd g.M.Machine.lawful g.N.Machine.lawful seed script old new told even odd ran first c.end.ensures.callers c.end-2.ensures.callers))
     (let few : length evens.items < 2 ^ 64 = let long = evens.ok.0 in let held = evens.ok.1 in let small = evens.small in omega (arith, long, held, small) in few)
     (let few : length odds.items < 2 ^ 64 = let long = odds.ok.0 in let held = odds.ok.1 in let small = odds.small in omega (arith, long, held, small) in few)

@@ -10,7 +10,7 @@ use Rattle.linked_turns.proofs.rotation.run_rounds.Given as goal
 abbrev pub invariant-turns : goal.invariant-turns
 invariant-turns g l = record {
   count : length l.runners ≡ l.i-end;
-  turn : Rotating g.M.Machine.leads g.N.Machine.leads l.seed (sections_of l.fn.runners) (rounds_steps l.seed l.rounds 0 (states_of l.fn.runners))
+  turn : Rotating g.M.Machine.reaches g.N.Machine.reaches l.seed (sections_of l.fn.runners) (rounds_steps l.seed l.rounds 0 (states_of l.fn.runners))
       (round_steps l.seed l.number l.i (map state_of (take l.i (runners_of l.runners)))
       (map state_of (drop l.i (runners_of l.runners))) (rounds_steps l.seed (l.rounds - (l.number + 1)) (l.number + 1)))
       (turns_in l.number l.i) l.runners (at l.mounts.even.machine l.mounts.even.places) (at l.mounts.odd.machine l.mounts.odd.places);
@@ -18,6 +18,6 @@ invariant-turns g l = record {
 
 abbrev pub invariant-rounds : goal.invariant-rounds
 invariant-rounds g l =
-    Rotating g.M.Machine.leads g.N.Machine.leads l.seed (sections_of l.fn.runners) (rounds_steps l.seed l.rounds 0 (states_of l.fn.runners))
+    Rotating g.M.Machine.reaches g.N.Machine.reaches l.seed (sections_of l.fn.runners) (rounds_steps l.seed l.rounds 0 (states_of l.fn.runners))
     (rounds_steps l.seed (l.rounds - l.number) l.number (states_of l.runners)) (λ j. l.number) l.runners
     (at l.mounts.even.machine l.mounts.even.places) (at l.mounts.odd.machine l.mounts.odd.places)

@@ -6,12 +6,12 @@ use Rattle.load_gen.proofs.callers.verbs.Goals as goal
 
 pub drawn-preserved : goal.drawn-preserved
 drawn-preserved c = record {
-  made = goes_on c.drawn.verbs.items c.push.new.self.items _ c.drawn.counter c.args.caller c.drawn.numbers.last c.draw-drawn.new.self.last
-      (omega arith) c.draw-drawn.ensures.gone_on
+  made = goes_on c.drawn.verbs.items c.push.new.self.items _ c.drawn.counter c.args.caller c.drawn.numbers.last c.next_upper_bits-drawn.new.self.last
+      (omega arith) c.next_upper_bits-drawn.ensures.gone_on
       (c.in_ok-push.ensures.items
-      ∙ ap (λ v. c.drawn.verbs.items ++ v ∷ []) (c.in_ok-operation.ensures ∙ ap (operation c.args.caller) c.draw-drawn.ensures.value))
+      ∙ ap (λ v. c.drawn.verbs.items ++ v ∷ []) (c.in_ok-operation.ensures ∙ ap (operation c.args.caller) c.next_upper_bits-drawn.ensures.value))
       c.drawn.invariant.made;
-  last = number_goes_on c.drawn.counter c.drawn.numbers.last c.draw-drawn.new.self.last _ (omega arith) c.draw-drawn.ensures.gone_on c.drawn.invariant.last;
+  last = number_goes_on c.drawn.counter c.drawn.numbers.last c.next_upper_bits-drawn.new.self.last _ (omega arith) c.next_upper_bits-drawn.ensures.gone_on c.drawn.invariant.last;
 }
 
 pub returns-clause-value : goal.returns-clause-value

@@ -16,7 +16,7 @@ lines-init g c =
     record {
       ways = c.requires.ways ∙ sym are.many;
       room = omega arith;
-      read = begins _ _ _ _ _ _ _ _ _ refl refl (g.met.T.OneThread.led_lawful _ _ c.requires.led) c.requires.led are;
+      read = begins _ _ _ _ _ _ _ _ _ refl refl (g.met.T.OneThread.reached_lawful _ _ c.requires.reached_by) c.requires.reached_by are;
     }
 
 pub returns-then-not-branch : goal.returns-then-not-branch

@@ -7,7 +7,7 @@ abbrev pub invariant-lines : goal.invariant-lines
 invariant-lines g l = record {
   ways : length l.ways ≡ length l.reading.callers.items;
   room : l.reading.place + length l.reading.rest.now < 2 ^ 64;
-  read : Stands l.strict g.T.OneThread.led l.seed l.script l.text l.reading.place l.reading.rest.now l.reading.callers.items l.mount;
+  read : Stands l.strict g.T.OneThread.reached_by l.seed l.script l.text l.reading.place l.reading.rest.now l.reading.callers.items l.mount;
 }
 
 -- what is left to be read

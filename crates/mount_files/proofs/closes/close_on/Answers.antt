@@ -57,7 +57,7 @@ returns-clause-closed c =
 pub returns-clause-same : goal.returns-clause-same
 returns-clause-same c = record { disk = tt; next_node = refl; ring = refl; meta = refl; keys = tt; pins = tt; handles = tt; modes = tt; names = tt }
 
-pub returns-clause-stands : goal.returns-clause-stands
-returns-clause-stands c = λ m st.
+pub returns-clause-represents : goal.returns-clause-represents
+returns-clause-represents c = λ m st.
     closed_stands c.args.state.now _ m c.args.caller c.args.handle c.args.node st (returns-clause-same c) (returns-clause-closed c)
     (ap (λ (hs : HandleList). node_of hs c.args.caller c.args.handle) (sym st.handles.live) ∙ c.requires)

@@ -1,5 +1,5 @@
 use Rattle.std.proofs.Common.{rules, ◌≡◌, ◌+◌, sym, ap, ◌∙◌, arith}
-use Rattle.inode_refs.specs.Cached.{Cache, pins_of}
+use Rattle.inode_refs.specs.CacheMaps.{Cache, pins_of}
 use Rattle.inode_refs.proofs.CacheLemmas.{at_ok}
 use Rattle.mount_files.proofs.HandleCounts.{pins_here}
 use Rattle.mount_files.proofs.PinnedLemmas.{unpinned}

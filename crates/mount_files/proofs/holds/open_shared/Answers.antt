@@ -1,12 +1,12 @@
 use Rattle.std.proofs.Common.{◌≤◌, None, refl, sym, ap, subst, ◌∙◌}
 use Rattle.key_ring.specs.Modes.{Modes, of_kind}
 use Rattle.key_ring.specs.ModeUsers.{users_in}
-use Rattle.inode_refs.specs.Cached.{Cache}
+use Rattle.inode_refs.specs.CacheMaps.{Cache}
 use Rattle.inode_refs.proofs.CacheLemmas.{at_ok}
 use Rattle.mount_state.specs.Discipline.{Forgets}
 use Rattle.mount_state.specs.Handles.{Handles}
 use Rattle.mount_state.specs.Safe.{IsSafe}
-use Rattle.mount_state.specs.CachedKeys.{CachesStand}
+use Rattle.mount_state.specs.CachedKeys.{RepresentsCaches}
 use Rattle.mount_files.proofs.CachedRules.{names_opened}
 use Rattle.mount_files.proofs.ModeCounts.{held, released, held_back, held_some}
 use Rattle.mount_files.proofs.PinnedLemmas.{modes_fit, shared_opened, opened_with, safe_opened, shared_caches}
@@ -83,5 +83,5 @@ returns-in-Err-clause-caches c = λ m st fits.
     let hold = at_ok c.hold.result (sym c.is_err.ensures.value ∙ c.if-is_err.false) c.hold.ensures.held in
     let back = c.release.ensures ∙ ap (λ (x : Modes). released x c.args.id c.args.kind) hold
     ∙ held_back s.modes c.users_of-used.ensures.used c.args.id c.args.kind c.args.key in
-    subst (λ (x : Cache). CachesStand x c.release.new.self m) (sym c.in-Err.ensures.inodes)
-    (subst (λ (x : Modes). CachesStand s.inodes x m) (sym back) st.caches)
+    subst (λ (x : Cache). RepresentsCaches x c.release.new.self m) (sym c.in-Err.ensures.inodes)
+    (subst (λ (x : Modes). RepresentsCaches s.inodes x m) (sym back) st.caches)

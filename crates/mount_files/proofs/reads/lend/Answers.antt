@@ -1,13 +1,13 @@
 use Rattle.std.proofs.Common.{List, ℕ, Some, None, inl, sym, ap, subst, ◌∙◌}
 use Rattle.std.proofs.lemmas.Bool.{true≢false}
 use Rattle.file_disk.specs.Keys.{seal_of}
-use Rattle.file_disk.specs.Lent.{IsPart}
+use Rattle.file_disk.specs.Pending.{IsPart}
 use Rattle.mount_model.specs.declared.reply.Reply.TheVariants.{Content}
 use Rattle.mount_files.proofs.ReadLemmas.{part_is}
 use Rattle.mount_files.proofs.reads.lend.Goals as goal
 
 pub returns-in-Err-clause-read : goal.returns-in-Err-clause-read
-returns-in-Err-clause-read c = λ m st is_open. absurd (true≢false (sym (c.in-Err.ensures.held (record { mount = m; stands = st; is_open = is_open }))))
+returns-in-Err-clause-read c = λ m st is_open. absurd (true≢false (sym (c.in-Err.ensures.held (record { mount = m; represents = st; is_open = is_open }))))
 
 pub returns-in-Ok-Some-clause-read : goal.returns-in-Ok-Some-clause-read
 returns-in-Ok-Some-clause-read c = λ m st is_open.

@@ -4,8 +4,8 @@ use Rattle.mount_files.proofs.OpenLemmas.{file_at}
 use Rattle.mount_files.proofs.ReadLemmas.{read_refused, read_answered}
 use Rattle.mount_files.proofs.reads.read_begin.Goals as goal
 
-pub returns-in-Ok-2-clause-stands : goal.returns-in-Ok-2-clause-stands
-returns-in-Ok-2-clause-stands c = λ m st.
+pub returns-in-Ok-2-clause-represents : goal.returns-in-Ok-2-clause-represents
+returns-in-Ok-2-clause-represents c = λ m st.
     let s = c.args.state.now in
     let is_open = file_at s m st c.args.caller c.args.handle c.in-Ok.field-0 c.in-Ok.ensures.held c.in-Ok.ensures.file in
     elim (c.lend.ensures.read m st is_open) [
@@ -13,8 +13,8 @@ returns-in-Ok-2-clause-stands c = λ m st.
       | inr wanting ↦ inr wanting
     ]
 
-pub returns-in-Err-clause-stands : goal.returns-in-Err-clause-stands
-returns-in-Err-clause-stands c = λ m st.
+pub returns-in-Err-clause-represents : goal.returns-in-Err-clause-represents
+returns-in-Err-clause-represents c = λ m st.
     inl (read_refused c.args.state.now m st c.args.caller c.args.handle c.args.offset c.args.len c.in-Err.refusal c.in-Err.ensures.refused)
 
 pub returns-in-Ok-2-clause-due : goal.returns-in-Ok-2-clause-due

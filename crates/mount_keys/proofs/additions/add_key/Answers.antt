@@ -1,6 +1,6 @@
 use Rattle.std.proofs.Common.{◌≤◌, length, inl, refl, sym, subst, ◌∙◌}
 use Rattle.fsc_keys.specs.Keys.{key_id_of}
-use Rattle.fsc_keys.specs.declared.raw_key.TheConstants.{LEAST_RAW_KEY_BYTES, MOST_RAW_KEY_BYTES}
+use Rattle.fsc_keys.specs.declared.raw_key.TheConstants.{MIN_RAW_KEY_BYTES, MAX_RAW_KEY_BYTES}
 use Rattle.mount_keys.proofs.EvictionLemmas.{added_rule, added_names}
 use Rattle.mount_keys.proofs.AdditionLemmas.{added_gives, added_present}
 use Rattle.mount_keys.proofs.additions.add_key.Goals as goal
@@ -18,11 +18,11 @@ invariant_of-state c =
       safe = s.safe;
     }
 
-pub returns-in-Ok-added-clause-stands : goal.returns-in-Ok-added-clause-stands
-returns-in-Ok-added-clause-stands c = λ m st agrees.
-    let range : (LEAST_RAW_KEY_BYTES ≤ length c.args.raw.now)
-    × (length c.args.raw.now ≤ MOST_RAW_KEY_BYTES) =
-    subst (λ l. (LEAST_RAW_KEY_BYTES ≤ length l) × (length l ≤ MOST_RAW_KEY_BYTES)) c.as_slice.ensures
+pub returns-in-Ok-added-clause-represents : goal.returns-in-Ok-added-clause-represents
+returns-in-Ok-added-clause-represents c = λ m st agrees.
+    let range : (MIN_RAW_KEY_BYTES ≤ length c.args.raw.now)
+    × (length c.args.raw.now ≤ MAX_RAW_KEY_BYTES) =
+    subst (λ l. (MIN_RAW_KEY_BYTES ≤ length l) × (length l ≤ MAX_RAW_KEY_BYTES)) c.as_slice.ensures
     (c.in-Ok.ensures.ok_in_range.0 refl) in
     inl (added_gives c.args.state.now m st c.users_of-used.ensures.used _ c.args.uid c.in-Ok.key
     c.args.raw.now c.in-Ok-added.id (agrees refl)

@@ -1,5 +1,5 @@
 use Rattle.std.proofs.Common.{rules, refl, sym, ap, ◌∙◌}
-use Rattle.inode_refs.specs.Cached.{Cache, key_at}
+use Rattle.inode_refs.specs.CacheMaps.{Cache, key_at}
 use Rattle.mount_state.proofs.FirstLemmas.{none_remembered}
 use Rattle.mount_keys.proofs.EvictionLemmas.{all_evicted_rule, all_evicted_was}
 use Rattle.mount_keys.proofs.FewerLemmas.{fewer_stand, no_names_more}
@@ -15,8 +15,8 @@ invariant_of-state c =
       safe = s.safe;
     }
 
-pub returns-clause-stands : goal.returns-clause-stands
-returns-clause-stands c = λ m st.
+pub returns-clause-represents : goal.returns-clause-represents
+returns-clause-represents c = λ m st.
     let s = c.args.state.now in (
       refl,
       fewer_stand s _ m m.claims st

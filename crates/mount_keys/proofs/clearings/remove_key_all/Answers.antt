@@ -1,6 +1,6 @@
 use Rattle.std.proofs.Common.{◌≡◌, false, rules, sym, ◌∙◌}
 use Rattle.mount_model.specs.declared.reply.Reply.TheVariants.{Removed}
-use Rattle.mount_keys.specs.Told.{told_of_clearing}
+use Rattle.mount_keys.specs.KeyReplies.{reply_of_clearing}
 use Rattle.mount_keys.proofs.FewerLemmas.{cleared_stand, cleared_nothing}
 use Rattle.mount_keys.proofs.ToldLemmas.{clearing_gives}
 use Rattle.mount_keys.proofs.clearings.remove_key_all.Goals as goal
@@ -12,9 +12,9 @@ returns-clause-gone c = λ told.
     (sym c.is_busy-busy.ensures.value ∙ idle) (c.is_busy-busy.ensures.modes idle)
     c.take_all_claims.ensures.taken
 
-pub returns-clause-stands : goal.returns-clause-stands
-returns-clause-stands c = λ m st.
-    let told : Removed false c.is_busy-busy.result ≡ told_of_clearing c.args.state.now c.args.uid
+pub returns-clause-represents : goal.returns-clause-represents
+returns-clause-represents c = λ m st.
+    let told : Removed false c.is_busy-busy.result ≡ reply_of_clearing c.args.state.now c.args.uid
     c.args.id.now = search rules in
     clearing_gives c.args.state.now m st c.args.uid c.args.id.now c.take_all_claims.new.state false
     c.is_busy-busy.result told

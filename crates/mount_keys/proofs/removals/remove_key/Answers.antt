@@ -3,8 +3,8 @@ use Rattle.user_claims.specs.Claims.{ClaimSet, has_claim}
 use Rattle.user_claims.specs.ClaimCounts.{is_present}
 use Rattle.key_ring.proofs.RingLemmas.{absent_at_zero}
 use Rattle.mount_model.specs.declared.reply.Reply.TheVariants.{Removed}
-use Rattle.mount_state.specs.Held.{is_in_use}
-use Rattle.mount_keys.specs.Told.{told_of_removal}
+use Rattle.mount_state.specs.KeyUse.{is_in_use}
+use Rattle.mount_keys.specs.KeyReplies.{reply_of_removal}
 use Rattle.mount_keys.proofs.FewerLemmas.{lost_stand, lost_nothing, loses_none}
 use Rattle.mount_keys.proofs.ToldLemmas.{held_told, busy_told, removal_gives}
 use Rattle.mount_keys.proofs.removals.remove_key.Goals as goal
@@ -28,7 +28,7 @@ busy_is c = elim c.if-not-others.branch [
 ]
 
 told : (c : goal.Joined-not-others) → Removed c.take_claim-others.result c.if-not-others.result
-    ≡ told_of_removal c.args.state.now c.args.uid c.args.id.now
+    ≡ reply_of_removal c.args.state.now c.args.uid c.args.id.now
 told c =
     let s = c.args.state.now in
     let id = c.args.id.now in
@@ -55,8 +55,8 @@ returns-then-has-clause-gone c = λ is.
     (sym c.is_busy-busy.ensures.value ∙ idle) (c.is_busy-busy.ensures.modes idle)
     c.args.uid c.take_claim-others.ensures.taken (sym c.take_claim-others.ensures.left ∙ none)
 
-pub returns-then-has-clause-stands : goal.returns-then-has-clause-stands
-returns-then-has-clause-stands c = λ m st.
+pub returns-then-has-clause-represents : goal.returns-then-has-clause-represents
+returns-then-has-clause-represents c = λ m st.
     removal_gives c.args.state.now m st c.args.uid c.args.id.now c.take_claim-others.new.state
     c.take_claim-others.result c.if-not-others.result (told c)
     (lost_stand c.args.state.now c.take_claim-others.new.state m c.args.uid c.args.id.now st
@@ -71,7 +71,7 @@ absent c =
     (sym c.count_of_id.ensures ∙ c.if-count_of_id-eq0.true)
 
 needed_told : (c : goal.Then-count_of_id-eq0) → Removed false c.is_busy-busy.result
-    ≡ told_of_removal c.args.state.now c.args.uid c.args.id.now
+    ≡ reply_of_removal c.args.state.now c.args.uid c.args.id.now
 needed_told c =
     let s = c.args.state.now in
     ap (Removed false) c.is_busy-busy.ensures.value
@@ -85,8 +85,8 @@ pub returns-then-count_of_id-eq0-clause-taken : goal.returns-then-count_of_id-eq
 returns-then-count_of_id-eq0-clause-taken c =
     λ _. loses_none c.args.state.now c.args.uid c.args.id.now c.claims.ensures.secrets (absent c)
 
-pub returns-then-count_of_id-eq0-clause-stands : goal.returns-then-count_of_id-eq0-clause-stands
-returns-then-count_of_id-eq0-clause-stands c = λ m st.
+pub returns-then-count_of_id-eq0-clause-represents : goal.returns-then-count_of_id-eq0-clause-represents
+returns-then-count_of_id-eq0-clause-represents c = λ m st.
     let s = c.args.state.now in
     removal_gives s m st c.args.uid c.args.id.now s false c.is_busy-busy.result (needed_told c)
     (lost_stand s s m c.args.uid c.args.id.now st (record

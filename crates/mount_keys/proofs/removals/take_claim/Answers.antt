@@ -3,8 +3,8 @@ use Rattle.user_claims.specs.Claims.{ClaimSet}
 use Rattle.user_claims.specs.ClaimCounts.{is_present, count_of_id}
 use Rattle.user_claims.proofs.PresentLemmas.{is_present-some, is_present-held, is_present-without_claim_other}
 use Rattle.dentry_cache.specs.Names.{with_pairs}
-use Rattle.inode_refs.specs.Cached.{Cache}
-use Rattle.inode_refs.specs.Evictions.{evicted}
+use Rattle.inode_refs.specs.CacheMaps.{Cache}
+use Rattle.inode_refs.specs.Evictions.{without_derived_keys}
 use Rattle.key_ring.proofs.RingLemmas.{absent_at_zero}
 use Rattle.mount_state.proofs.FirstLemmas.{none_remembered}
 use Rattle.mount_keys.proofs.EvictionLemmas.{left_rule, left_names, evicted_rule}
@@ -54,7 +54,7 @@ returns-clause-taken c =
       claims = c.take_claim-left.ensures.claims;
       secrets = c.take_claim-left.ensures.secrets;
       cached = ap (λ (x : Cache). x.keys) c.evict_unpinned.ensures
-          ∙ sym (ap (λ b. cond b s.inodes.keys (evicted s.inodes id)) absent);
+          ∙ sym (ap (λ b. cond b s.inodes.keys (without_derived_keys s.inodes id)) absent);
       names = c.forget_all.ensures
           ∙ sym (λ i. cond (held i && not (absent i)) (with_pairs s.names []) s.names);
     }

@@ -9,4 +9,4 @@ returns-in-Some-clause-load c = λ label e.
     c.in-MetaLoad.is
     ∙ ap MetaLoad (asked_back c.in-MetaLoad.name c.in-Some.record label
     (ap record_of (sym c.as_slice.ensures) ∙ sym c.read_record.ensures ∙ c.in-Some.is)
-    (sym c.load_asked.ensures ∙ e))
+    (sym c.asked_of_load.ensures ∙ e))

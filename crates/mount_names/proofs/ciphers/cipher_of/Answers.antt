@@ -13,6 +13,6 @@ returns-clause-keyed c = λ m st names here keyed.
       | inl is ↦ absurd (true≢false (sym (c.is_dir.ensures.1 (dir_lies s.disk s.next_node m st.tree c.args.number is)) ∙ c.if-is_dir.false))
       | inr not_so ↦ not_so
     ] in
-    drawn_cipher_is m c.args.number context here s.ring st.keys c.drawn_cipher.result c.drawn_cipher.ensures.value
-    (secret_there m c.args.number context here s.ring st.keys c.drawn_cipher.ensures.claimed
+    drawn_cipher_is m c.args.number context here s.ring st.keys c.derived_cipher.result c.derived_cipher.ensures.value
+    (secret_there m c.args.number context here s.ring st.keys c.derived_cipher.ensures.claimed
     (link_present m c.args.number context here st.well.handles names other keyed))

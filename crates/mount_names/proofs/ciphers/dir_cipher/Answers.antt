@@ -25,6 +25,6 @@ returns-in-None-clause-keyed c = λ m st names here keyed.
     let context = c.args.context.now in
     let is_dir = dir_read s.disk s.next_node m st.tree c.args.dir c.requires in
     let uncached : cached_key s.inodes s.modes c.args.dir context ≡ None = search rules in
-    drawn_cipher_is m c.args.dir context here s.ring st.keys c.drawn_cipher.result c.drawn_cipher.ensures.value
+    drawn_cipher_is m c.args.dir context here s.ring st.keys c.derived_cipher.result c.derived_cipher.ensures.value
     (some_key m c.args.dir context here s.disk s.next_node st.well st.tree is_dir s.ring s.inodes s.modes s.handles.live s.forgets
-    c.drawn_cipher.ensures.claimed st.keys.claims st.handles.live keyed uncached)
+    c.derived_cipher.ensures.claimed st.keys.claims st.handles.live keyed uncached)

@@ -3,7 +3,7 @@
 use Rattle.std.proofs.Common.{List}
 use Rattle.std.specs.List.{AllZip}
 use Rattle.plain_tree.specs.Nodes.{Name}
-use Rattle.mount_names.specs.Shown.{ShowsAs}
+use Rattle.mount_names.specs.VisibleNames.{ShowsAs}
 use Rattle.mount_names.proofs.ListedLemmas.{StillShown}
 use Rattle.mount_names.proofs.listings.shown_names.Given as goal
 

@@ -1,11 +1,11 @@
 use Rattle.std.proofs.Common.{◌≡◌, refl, inl, sym, subst}
 use Rattle.std.specs.Prelude.{IfSome}
 use Rattle.disk_tree.specs.DiskTree.{children}
-use Rattle.disk_tree.specs.EntryChanges.{moved}
+use Rattle.disk_tree.specs.EntryChanges.{with_moved_entry}
 use Rattle.disk_tree.specs.Entries.{number_under}
 use Rattle.dentry_cache.specs.HeldNames.{HoldsNone}
 use Rattle.mount_state.proofs.CachedLemmas.{forget_fewer}
-use Rattle.mount_names.specs.Found.{IsEntryOn}
+use Rattle.mount_names.specs.FoundEntries.{IsEntryOn}
 use Rattle.mount_names.specs.Places.{Entry, Place}
 use Rattle.mount_names.proofs.MoveLemmas.{move_seen, moved_keeps, moved_forgets, moved_is_safe, moved_stands}
 use Rattle.mount_names.proofs.CachedStands.{names_moved}
@@ -28,14 +28,14 @@ invariant_of-state c =
           c.move_entry.result c.move_entry.ensures.moved c.move_entry.ensures.kept;
     }
 
-pub returns-in-Ok-clause-stands : goal.returns-in-Ok-clause-stands
-returns-in-Ok-clause-stands c = λ m name new_name st of by_part at well.
+pub returns-in-Ok-clause-represents : goal.returns-in-Ok-clause-represents
+returns-in-Ok-clause-represents c = λ m name new_name st of by_part at well.
     let s = c.args.state.now in
     let e = c.args.entry.now in
     let p = c.args.place.now in
     let left = c.move_entry.new.self in
-    let from = subst (λ (x : Entry). IfSome (number_under x.stored (children s.disk x.dir)) (λ n. left ≡ moved s.disk x.dir x.stored c.place.inside.dir c.place.inside.stored.now n)) c.entry.view_is c.in-Ok.ensures.moved in
-    let there = subst (λ (y : Place). IfSome (number_under e.stored (children s.disk e.dir)) (λ n. left ≡ moved s.disk e.dir e.stored y.dir y.stored n)) c.place.view_is from in
+    let from = subst (λ (x : Entry). IfSome (number_under x.stored (children s.disk x.dir)) (λ n. left ≡ with_moved_entry s.disk x.dir x.stored c.place.inside.dir c.place.inside.stored.now n)) c.entry.view_is c.in-Ok.ensures.moved in
+    let there = subst (λ (y : Place). IfSome (number_under e.stored (children s.disk e.dir)) (λ n. left ≡ with_moved_entry s.disk e.dir e.stored y.dir y.stored n)) c.place.view_is from in
     let is = move_seen s.disk left e p e.stored p.stored refl refl c.requires.there there in
     let none = subst (λ (x : Entry). HoldsNone c.forget.new.self x.dir c.args.part.now) c.entry.view_is c.forget.ensures.none in
     let names = names_moved s m st e.dir name c.args.part.now by_part c.forget.new.self c.forget.ensures.no_more none p.dir new_name e.number

@@ -2,7 +2,7 @@ use Rattle.std.proofs.Common.{rules, ◌≡◌, length, sym, ◌∙◌, arith}
 use Rattle.std.proofs.lemmas.List.{take_all}
 use Rattle.std.proofs.lemmas.List.Sorted.{answers_always}
 use Rattle.mount_model.specs.ListAnswers.{in_order}
-use Rattle.mount_names.specs.Listed.{names_of}
+use Rattle.mount_names.specs.NamePages.{names_of}
 use Rattle.mount_names.proofs.PageLemmas.{before, order_before, front_is, length_in_order, length_names}
 use Rattle.mount_names.proofs.pages.least.Goals as goal
 

@@ -8,7 +8,7 @@ use Rattle.mount_model.specs.OpenHandles.{has_handle}
 use Rattle.mount_state.specs.Handles.{handles_on}
 use Rattle.mount_state.specs.Safe.{IsSafe}
 use Rattle.mount_state.proofs.UserLemmas.{pins_tell}
-use Rattle.mount_names.specs.Encrypted.{with_policy}
+use Rattle.mount_names.specs.EncryptedDirs.{with_policy}
 use Rattle.mount_names.proofs.ReadLemmas.{dir_read}
 use Rattle.mount_names.proofs.CachedRules.{policy_names, names_on}
 use Rattle.mount_names.proofs.PolicyRules.{rule_of, policy_safe, open_rule, users_fit}
@@ -38,8 +38,8 @@ invariant_of-state c =
           (policy_safe s.disk s.next_node c.args.dir c.args.context.now c.requires.dir c.requires.plain s.handles.live s.safe);
     }
 
-pub returns-in-Ok-clause-stands : goal.returns-in-Ok-clause-stands
-returns-in-Ok-clause-stands c = λ m st empty present well.
+pub returns-in-Ok-clause-represents : goal.returns-in-Ok-clause-represents
+returns-in-Ok-clause-represents c = λ m st empty present well.
     let s = c.args.state.now in
     let count : c.args.handles ≡ handles_on s.handles.live c.args.dir = c.requires.pins ∙ s.forgets.pins.pinned c.args.dir in
     let held : has_handle s.handles.live c.args.dir ≡ true = sym (pins_tell s.handles.live c.args.dir c.args.handles count) ∙ lt-ltb 0 c.args.handles (omega (arith, c.requires.some)) in

@@ -1,9 +1,9 @@
 use Rattle.std.proofs.Common.{◌≡◌, refl, ap, subst, ◌∙◌}
 use Rattle.std.specs.Prelude.{IfSome}
 use Rattle.number_map.specs.Numbered.{remove}
-use Rattle.inode_refs.specs.Cached.{Cache, pins_of}
+use Rattle.inode_refs.specs.CacheMaps.{Cache, pins_of}
 use Rattle.disk_tree.specs.DiskTree.{children}
-use Rattle.disk_tree.specs.EntryChanges.{dropped}
+use Rattle.disk_tree.specs.EntryChanges.{without_entry_and_name}
 use Rattle.disk_tree.specs.Entries.{number_under}
 use Rattle.dentry_cache.specs.HeldNames.{HoldsNone}
 use Rattle.mount_state.proofs.CachedLemmas.{forget_fewer}
@@ -17,7 +17,7 @@ pub invariant_of-state : goal.invariant_of-state
 invariant_of-state c =
     let s = c.args.state.now in
     let e = c.args.entry.now in
-    let left = drop_is s.disk c.drop_entry.new.self e e.stored refl c.requires.there (subst (λ (x : Entry). IfSome (number_under x.stored (children s.disk x.dir)) (λ n. c.drop_entry.new.self ≡ dropped s.disk x.dir x.stored n)) c.entry.view_is c.drop_entry.ensures.gone) in
+    let left = drop_is s.disk c.drop_entry.new.self e e.stored refl c.requires.there (subst (λ (x : Entry). IfSome (number_under x.stored (children s.disk x.dir)) (λ n. c.drop_entry.new.self ≡ without_entry_and_name s.disk x.dir x.stored n)) c.entry.view_is c.drop_entry.ensures.gone) in
     record {
       forgets = dropped_keeps s e c.drop_entry.new.self left;
       remembers = names_on _ c.drop_entry.new.self s.ring.claims c.forget.new.self s.handles.live left
@@ -25,11 +25,11 @@ invariant_of-state c =
       safe = dropped_is_safe s e c.drop_entry.new.self left;
     }
 
-pub returns-then-pins-gt0-clause-stands : goal.returns-then-pins-gt0-clause-stands
-returns-then-pins-gt0-clause-stands c = λ m name st of by_part well.
+pub returns-then-pins-gt0-clause-represents : goal.returns-then-pins-gt0-clause-represents
+returns-then-pins-gt0-clause-represents c = λ m name st of by_part well.
     let s = c.args.state.now in
     let e = c.args.entry.now in
-    let left = drop_is s.disk c.drop_entry.new.self e e.stored refl c.requires.there (subst (λ (x : Entry). IfSome (number_under x.stored (children s.disk x.dir)) (λ n. c.drop_entry.new.self ≡ dropped s.disk x.dir x.stored n)) c.entry.view_is c.drop_entry.ensures.gone) in
+    let left = drop_is s.disk c.drop_entry.new.self e e.stored refl c.requires.there (subst (λ (x : Entry). IfSome (number_under x.stored (children s.disk x.dir)) (λ n. c.drop_entry.new.self ≡ without_entry_and_name s.disk x.dir x.stored n)) c.entry.view_is c.drop_entry.ensures.gone) in
     let held = held_told s e.number c.pins.result (c.pins.ensures ∙ ap (λ (x : Entry). pins_of s.inodes x.number) c.entry.view_is) c.if-pins-gt0.true in
     let none = subst (λ (x : Entry). HoldsNone c.forget.new.self x.dir c.args.part.now) c.entry.view_is c.forget.ensures.none in
     kept_stands s m st e name of _ (record { disk = tt; next_node = tt; ring = refl; meta = refl; keys = tt; pins = refl; handles = refl; modes = refl; names = tt }) refl well held left refl
@@ -39,22 +39,22 @@ pub invariant_of-state-2 : goal.invariant_of-state-2
 invariant_of-state-2 c =
     let s = c.args.state.now in
     let e = c.args.entry.now in
-    let gone = gone_is s.disk c.drop_named.new.self e e.stored refl c.requires.there (subst (λ (x : Entry). IfSome (number_under x.stored (children s.disk x.dir)) (λ n. c.drop_named.new.self ≡ remove (dropped s.disk x.dir x.stored n) n)) c.entry.view_is c.drop_named.ensures.gone) in
+    let gone = gone_is s.disk c.remove_entry_and_node.new.self e e.stored refl c.requires.there (subst (λ (x : Entry). IfSome (number_under x.stored (children s.disk x.dir)) (λ n. c.remove_entry_and_node.new.self ≡ remove (without_entry_and_name s.disk x.dir x.stored n) n)) c.entry.view_is c.remove_entry_and_node.ensures.gone) in
     let free = free_told s e.number c.pins.result (c.pins.ensures ∙ ap (λ (x : Entry). pins_of s.inodes x.number) c.entry.view_is) c.if-pins-gt0.false in
-    let left = dropped s.disk e.dir e.stored e.number in
+    let left = without_entry_and_name s.disk e.dir e.stored e.number in
     record {
-      forgets = gone_keeps s e left refl free c.drop_named.new.self c.drop_key.new.self gone (c.drop_key.ensures ∙ ap (λ (x : Entry). let fewer : Cache = record s.inodes { keys = remove s.inodes.keys x.number } in fewer) c.entry.view_is);
-      remembers = names_on _ c.drop_named.new.self s.ring.claims c.forget.new.self s.handles.live gone
+      forgets = gone_keeps s e left refl free c.remove_entry_and_node.new.self c.drop_key.new.self gone (c.drop_key.ensures ∙ ap (λ (x : Entry). let fewer : Cache = record s.inodes { keys = remove s.inodes.keys x.number } in fewer) c.entry.view_is);
+      remembers = names_on _ c.remove_entry_and_node.new.self s.ring.claims c.forget.new.self s.handles.live gone
           (gone_names left s.ring.claims c.forget.new.self s.handles.live
           (dropped_names s.disk s.ring.claims c.forget.new.self s.handles.live (forget_fewer s.disk s.ring.claims s.handles.live s.names c.forget.new.self s.remembers c.forget.ensures.no_more) e.dir e.stored e.number) e.number (λ pair held. c.requires.none pair (c.forget.ensures.no_more pair held)));
-      safe = gone_is_safe s e left refl free c.drop_named.new.self gone;
+      safe = gone_is_safe s e left refl free c.remove_entry_and_node.new.self gone;
     }
 
-pub returns-clause-stands : goal.returns-clause-stands
-returns-clause-stands c = λ m name st of by_part well.
+pub returns-clause-represents : goal.returns-clause-represents
+returns-clause-represents c = λ m name st of by_part well.
     let s = c.args.state.now in
     let e = c.args.entry.now in
-    let gone = gone_is s.disk c.drop_named.new.self e e.stored refl c.requires.there (subst (λ (x : Entry). IfSome (number_under x.stored (children s.disk x.dir)) (λ n. c.drop_named.new.self ≡ remove (dropped s.disk x.dir x.stored n) n)) c.entry.view_is c.drop_named.ensures.gone) in
+    let gone = gone_is s.disk c.remove_entry_and_node.new.self e e.stored refl c.requires.there (subst (λ (x : Entry). IfSome (number_under x.stored (children s.disk x.dir)) (λ n. c.remove_entry_and_node.new.self ≡ remove (without_entry_and_name s.disk x.dir x.stored n) n)) c.entry.view_is c.remove_entry_and_node.ensures.gone) in
     let free = free_told s e.number c.pins.result (c.pins.ensures ∙ ap (λ (x : Entry). pins_of s.inodes x.number) c.entry.view_is) c.if-pins-gt0.false in
     let none = subst (λ (x : Entry). HoldsNone c.forget.new.self x.dir c.args.part.now) c.entry.view_is c.forget.ensures.none in
     gone_stands s m st e name of _ (record { disk = tt; next_node = tt; ring = refl; meta = refl; keys = tt; pins = ap (λ (k : Cache). k.pins) c.drop_key.ensures; handles = refl; modes = refl; names = tt }) refl well free

@@ -9,15 +9,15 @@ use Rattle.number_map.specs.Numbered.{get}
 use Rattle.mount_names.specs.Places.{Entry}
 use Rattle.dentry_cache.specs.HeldNames.{HoldsNoneIn}
 use Rattle.mount_model.specs.EntryPaths.{is_root}
-use Rattle.mount_model.specs.Walk.{found as led_by}
+use Rattle.mount_model.specs.Walk.{visible_entry as led_by}
 use Rattle.mount_state.proofs.CachedLemmas.{stand_fewer}
 use Rattle.mount_names.proofs.CachedStands.{found_by}
 use Rattle.mount_names.proofs.FoundLemmas.{end_at, end_is}
 use Rattle.mount_names.proofs.RemovalLemmas.{unlinked_dir, rmdir_no_dir, rmdir_full, rmdir_done, refused_given, done_given, well_of, is_dir_there, no_dir_there, as_many_there}
 use Rattle.mount_names.proofs.removals.remove_dir.Goals as goal
 
-pub returns-then-not-is_dir-clause-stands : goal.returns-then-not-is_dir-clause-stands
-returns-then-not-is_dir-clause-stands c = λ m path st named at_end part_is well.
+pub returns-then-not-is_dir-clause-represents : goal.returns-then-not-is_dir-clause-represents
+returns-then-not-is_dir-clause-represents c = λ m path st named at_end part_is well.
     let s = c.args.state.now in
     let e = c.args.entry.now in
     let found : Some c.in-Some.node.now ≡ get s.disk e.number = c.in-Some.ensures ∙ ap (λ (x : Entry). get s.disk x.number) c.entry.view_is in
@@ -25,8 +25,8 @@ returns-then-not-is_dir-clause-stands c = λ m path st named at_end part_is well
     let other = no_dir_there s m st e.number (λ is. false≢true (sym c.if-not-is_dir.true ∙ c.is_dir.ensures.1 (subst (of_node ⊥ (λ node. IsDir node.body)) (sym found) is))) in
     refused_given m (answer_to_rmdir m path) NotDir (end_is m path false e at (is_root path) named Inval (unlinked_dir m) ∙ rmdir_no_dir m e.dir at.name e.number other) s st
 
-pub returns-then-entry_count-gt0-clause-stands : goal.returns-then-entry_count-gt0-clause-stands
-returns-then-entry_count-gt0-clause-stands c = λ m path st named at_end part_is well.
+pub returns-then-entry_count-gt0-clause-represents : goal.returns-then-entry_count-gt0-clause-represents
+returns-then-entry_count-gt0-clause-represents c = λ m path st named at_end part_is well.
     let s = c.args.state.now in
     let e = c.args.entry.now in
     let found : Some c.in-Some.node.now ≡ get s.disk e.number = c.in-Some.ensures ∙ ap (λ (x : Entry). get s.disk x.number) c.entry.view_is in
@@ -36,8 +36,8 @@ returns-then-entry_count-gt0-clause-stands c = λ m path st named at_end part_is
     refused_given m (answer_to_rmdir m path) NotEmpty
     (end_is m path false e at (is_root path) named Inval (unlinked_dir m) ∙ rmdir_full m e.dir at.name e.number dir c.entry_count.result as_many c.if-entry_count-gt0.true) s st
 
-pub returns-clause-stands : goal.returns-clause-stands
-returns-clause-stands c = λ m path st named at_end part_is well.
+pub returns-clause-represents : goal.returns-clause-represents
+returns-clause-represents c = λ m path st named at_end part_is well.
     let s = c.args.state.now in
     let e = c.args.entry.now in
     let found : Some c.in-Some.node.now ≡ get s.disk e.number = c.in-Some.ensures ∙ ap (λ (x : Entry). get s.disk x.number) c.entry.view_is in
@@ -47,7 +47,7 @@ returns-clause-stands c = λ m path st named at_end part_is well.
     let is = end_is m path false e at (is_root path) named Inval (unlinked_dir m) ∙ rmdir_done m e.dir at.name e.number dir c.entry_count.result as_many c.if-entry_count-gt0.false in
     let after = without_name m e.dir at.name e.number in
     done_given after (answer_to_rmdir m path) is c.drop_entry.new.state
-    (c.drop_entry.ensures.stands m at.name (record {
+    (c.drop_entry.ensures.represents m at.name (record {
       well = st.well;
       tree = st.tree;
       keys = st.keys;

@@ -2,7 +2,7 @@ use Rattle.std.proofs.Common.{is_some, inl, inr, refl, ap, ◌∙◌, arith}
 use Rattle.std.specs.Map.{lookup}
 use Rattle.name_crypt.specs.NoKeyText.{nokey_text_of}
 use Rattle.disk_tree.specs.DiskTree.{children}
-use Rattle.mount_state.specs.Led.{is_text_of}
+use Rattle.mount_state.specs.Resolution.{is_text_of}
 use Rattle.mount_names.proofs.ClashLemmas.{clash_found, stored_fits}
 use Rattle.mount_names.proofs.stored_names.shares_long_text.Goals as goal
 

@@ -33,5 +33,5 @@ returns-in-Some-own_cipher-clause-ranged g c = λ m st names here keyed other th
 pub returns-in-None-clause-value : goal.returns-in-None-clause-value
 returns-in-None-clause-value g c = λ m st names here keyed.
     let was : c.args.context.now ≡ Some c.in-Some.context = search rules in
-    c.sealed_anew.ensures.value m st names (sym here ∙ was) keyed
+    c.sealed_again.ensures.value m st names (sym here ∙ was) keyed
     ∙ ap (λ (o : Option Context). Some (stored_form m.raws c.args.number o c.args.name.now)) (sym was)

@@ -12,7 +12,7 @@ returns-in-MetaLoad-clause-made c = λ caller.
     (load_told (record_of c.args.state.now.meta c.in-MetaLoad.name) c.meta_load.result c.meta_load.ensures.held c.meta_load.ensures.absent)
     refl (λ _. itself c.args.state.now)
     (λ m st. load_due c.args.state.now m st c.in-MetaLoad.name c.meta_load.result c.meta_load.ensures.absent)
-    c.meta_load.ensures.stands
+    c.meta_load.ensures.represents
 
 pub returns-in-MetaStore-clause-made : goal.returns-in-MetaStore-clause-made
 returns-in-MetaStore-clause-made c = λ caller.
@@ -24,4 +24,4 @@ returns-in-MetaStore-clause-made c = λ caller.
     c.meta_store.ensures.same.ring
     (λ no. all_kept c.args.state.now c.meta_store.new.state (c.meta_store.ensures.kept no))
     (λ m st. store_due c.args.state.now m st c.in-MetaStore.name c.in-MetaStore.bytes c.in-MetaStore.expected c.meta_store.result c.meta_store.ensures.refused)
-    c.meta_store.ensures.stands
+    c.meta_store.ensures.represents

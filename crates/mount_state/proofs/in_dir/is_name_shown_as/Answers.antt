@@ -3,4 +3,4 @@ use Rattle.mount_state.proofs.ShownLemmas.{name_tells}
 use Rattle.mount_state.proofs.in_dir.is_name_shown_as.Goals as goal
 
 pub returns-clause-value : goal.returns-clause-value
-returns-clause-value c = name_tells c.args.shown.now c.args.stored.now c.is_shown_as.result c.if-stored-lt-LEAST_STORED_BYTES.false c.if-stored-gt-MOST_NAME_BYTES.false c.is_shown_as.ensures.0 c.is_shown_as.ensures.1
+returns-clause-value c = name_tells c.args.shown.now c.args.stored.now c.has_visible_name.result c.if-stored-lt-MIN_STORED_BYTES.false c.if-stored-gt-MAX_NAME_BYTES.false c.has_visible_name.ensures.0 c.has_visible_name.ensures.1

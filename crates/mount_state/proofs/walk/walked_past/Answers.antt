@@ -1,25 +1,25 @@
 use Rattle.std.proofs.Common.{take, ap, ◌∙◌, arith}
-use Rattle.mount_model.specs.Walk.{stepped, walked}
-use Rattle.mount_state.specs.Passed.{passes}
+use Rattle.mount_model.specs.Walk.{walk_step, walk_path}
+use Rattle.mount_state.specs.PassedNodes.{passes}
 use Rattle.mount_state.proofs.PassedLemmas.{past_more, end_refused}
 use Rattle.mount_state.proofs.WalkLemmas.{one_more, stopped, same_then}
 use Rattle.mount_state.proofs.walk.walked_past.Goals as goal
 
 pub returns-in-Err-clause-value : goal.returns-in-Err-clause-value
-returns-in-Err-clause-value g c = λ m stands.
-    end_refused (passes m 0 (take c.args.count c.args.path.now) c.args.node) c.in-Err.refusal (walked m (take c.args.count c.args.path.now))
+returns-in-Err-clause-value g c = λ m represents.
+    end_refused (passes m 0 (take c.args.count c.args.path.now) c.args.node) c.in-Err.refusal (walk_path m (take c.args.count c.args.path.now))
     (stopped m c.args.path.now c.args.count c.loop-i.i c.loop-i.at c.in-Some.part.now c.in-Some.ensures c.loop-i-test.true c.in-Err.refusal
-    (c.in-Err.ensures.value m (c.loop-i.invariant.2 m stands) ∙ ap (stepped m c.loop-i.at) c.bytes.ensures) (c.loop-i.invariant.0 m stands))
+    (c.in-Err.ensures.value m (c.loop-i.invariant.2 m represents) ∙ ap (walk_step m c.loop-i.at) c.bytes.ensures) (c.loop-i.invariant.0 m represents))
 
 pub loop-i-preserved : goal.loop-i-preserved
 loop-i-preserved g c = (
-  λ m stands.
+  λ m represents.
       one_more m c.args.path.now c.args.count c.loop-i.i c.loop-i.at c.in-Some.part.now c.in-Some.ensures c.loop-i-test.true c.in-Ok.next
-      (c.in-Ok.ensures.value m (c.loop-i.invariant.2 m stands) ∙ ap (stepped m c.loop-i.at) c.bytes.ensures) (c.loop-i.invariant.0 m stands),
-  λ m stands.
+      (c.in-Ok.ensures.value m (c.loop-i.invariant.2 m represents) ∙ ap (walk_step m c.loop-i.at) c.bytes.ensures) (c.loop-i.invariant.0 m represents),
+  λ m represents.
       past_more m c.args.path.now c.args.count c.loop-i.i c.loop-i.at c.args.node c.in-Some.part.now c.in-Some.ensures c.loop-i-test.true c.loop-i.past c.in-Ok.next
-      (c.in-Ok.ensures.value m (c.loop-i.invariant.2 m stands) ∙ ap (stepped m c.loop-i.at) c.bytes.ensures) (c.loop-i.invariant.1 m stands),
-  λ m stands. c.in-Ok.ensures.stands m (c.loop-i.invariant.2 m stands),
+      (c.in-Ok.ensures.value m (c.loop-i.invariant.2 m represents) ∙ ap (walk_step m c.loop-i.at) c.bytes.ensures) (c.loop-i.invariant.1 m represents),
+  λ m represents. c.in-Ok.ensures.represents m (c.loop-i.invariant.2 m represents),
   same_then c.loop-i.invariant.3 c.in-Ok.ensures.same,
   omega (arith, c.in-Ok.ensures.ticks, c.loop-i.invariant.4),
 )

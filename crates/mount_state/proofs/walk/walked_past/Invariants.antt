@@ -2,16 +2,16 @@
 -- node if the whole path does and the parts so far did not; the state represents the same mount.
 use Rattle.std.proofs.Common.{◌≡◌, ◌+◌, ◌≤◌, ◌||◌, take, drop}
 use Rattle.mount_model.specs.PlainMount.{PlainMount}
-use Rattle.mount_model.specs.Walk.{walked_from, walked}
-use Rattle.mount_state.specs.Passed.{passes}
+use Rattle.mount_model.specs.Walk.{walked_from, walk_path}
+use Rattle.mount_state.specs.PassedNodes.{passes}
 use Rattle.mount_state.specs.SameButCaches.{SameButCaches}
-use Rattle.mount_state.specs.StandsFor.{StandsFor}
+use Rattle.mount_state.specs.Represents.{Represents}
 use Rattle.mount_state.proofs.walk.walked_past.Given as goal
 
 abbrev pub invariant-loop-i : goal.invariant-loop-i
 invariant-loop-i g l =
-    ((m : PlainMount) → StandsFor l.fn.state m → walked_from m l.at (drop l.i (take l.count l.path)) ≡ walked m (take l.count l.path))
-    × ((m : PlainMount) → StandsFor l.fn.state m → (l.past || passes m l.at (drop l.i (take l.count l.path)) l.node) ≡ passes m 0 (take l.count l.path) l.node)
-    × ((m : PlainMount) → StandsFor l.fn.state m → StandsFor l.state m)
+    ((m : PlainMount) → Represents l.fn.state m → walked_from m l.at (drop l.i (take l.count l.path)) ≡ walk_path m (take l.count l.path))
+    × ((m : PlainMount) → Represents l.fn.state m → (l.past || passes m l.at (drop l.i (take l.count l.path)) l.node) ≡ passes m 0 (take l.count l.path) l.node)
+    × ((m : PlainMount) → Represents l.fn.state m → Represents l.state m)
     × SameButCaches l.fn.state l.state
     × (l.steps ≤ l.fn.steps + l.i)

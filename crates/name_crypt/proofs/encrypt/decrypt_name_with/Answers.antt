@@ -9,13 +9,13 @@ use Rattle.name_crypt.proofs.encrypt.decrypt_name_with.Goals as goal
 pub returns-in-Ok-clause-value : goal.returns-in-Ok-clause-value
 unfolding plain_name_with
 returns-in-Ok-clause-value c =
-    c.in-Ok.ensures.value ∙ c.before_nul.ensures ∙ ap before_nul (c.bytes.ensures.value ∙ c.deciphered-bytes.ensures)
+    c.in-Ok.ensures.value ∙ c.before_nul.ensures ∙ ap before_nul (c.bytes.ensures.value ∙ c.decrypted_text-bytes.ensures)
 
 pub returns-in-Ok-clause-not_plain : goal.returns-in-Ok-clause-not_plain
 unfolding plain_name_with
 returns-in-Ok-clause-not_plain c =
     let is : c.before_nul.result.now ≡ plain_name_with c.args.key.now c.args.iv c.args.stored.now =
-    c.before_nul.ensures ∙ ap before_nul (c.bytes.ensures.value ∙ c.deciphered-bytes.ensures) in
+    c.before_nul.ensures ∙ ap before_nul (c.bytes.ensures.value ∙ c.decrypted_text-bytes.ensures) in
     let some = (c.in-Ok.ensures.plain.0 refl).0 in
     (λ e. absurd (true≢false (sym e)), λ empty. absurd (omega (arith, ap length (is ∙ empty), some)))
 
@@ -23,7 +23,7 @@ pub returns-in-Err-clause-not_plain : goal.returns-in-Err-clause-not_plain
 unfolding plain_name_with
 returns-in-Err-clause-not_plain c =
     let is : c.before_nul.result.now ≡ plain_name_with c.args.key.now c.args.iv c.args.stored.now =
-    c.before_nul.ensures ∙ ap before_nul (c.bytes.ensures.value ∙ c.deciphered-bytes.ensures) in
+    c.before_nul.ensures ∙ ap before_nul (c.bytes.ensures.value ∙ c.decrypted_text-bytes.ensures) in
     let few : length c.before_nul.result.now ≤ 255 =
     omega (arith, ap length c.before_nul.ensures, length-before_nul c.bytes.result.now, c.bytes.ensures.bound) in (
       λ _. elim (cases_eq (length c.before_nul.result.now) 0) [

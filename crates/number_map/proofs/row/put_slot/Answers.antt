@@ -2,7 +2,7 @@
 use Rattle.std.proofs.Common.{◌≡◌, ℕ, ◌+◌, ◌<◌, ◌≤◌, Bool, true, false, cond, not, List, length, Option, Some, None, is_some, is_none, refl, sym, ap, subst, ◌∙◌}
 use Rattle.std.proofs.lemmas.Option.{slice_get_read}
 use Rattle.std.specs.List.{slice_get}
-use Rattle.number_map.specs.Rising.{filled, numbers}
+use Rattle.number_map.specs.Rising.{pairs_of_slots, numbers}
 use Rattle.number_map.specs.declared.row.Slot.{Slot}
 use Rattle.number_map.proofs.RowLemmas.{IsSorted, Parts}
 use Rattle.number_map.proofs.RowSteps.{at_place, parts_of, pushed_put, pushed_length, pushed_sorted, set_put, set_length, set_sorted, insert_put, insert_length, insert_sorted}
@@ -16,11 +16,11 @@ lower g c = subst (λ (ss : List (Slot g.row.V.Denot)). (k : ℕ) → k < length
 
 pub returns-then-is_above-clause-put : goal.returns-then-is_above-clause-put
 returns-then-is_above-clause-put g c = λ value is.
-    ap filled c.in_ok-push.ensures.items ∙ pushed_put c.args.slots.now.items c.args.slot (lower g c) value is
+    ap pairs_of_slots c.in_ok-push.ensures.items ∙ pushed_put c.args.slots.now.items c.args.slot (lower g c) value is
 
 pub returns-then-is_above-clause-counted : goal.returns-then-is_above-clause-counted
 returns-then-is_above-clause-counted g c =
-    ap (λ (ss : List (Slot g.row.V.Denot)). length (filled ss)) c.in_ok-push.ensures.items ∙ pushed_length c.args.slots.now.items c.args.slot (lower g c) c.requires.filled
+    ap (λ (ss : List (Slot g.row.V.Denot)). length (pairs_of_slots ss)) c.in_ok-push.ensures.items ∙ pushed_length c.args.slots.now.items c.args.slot (lower g c) c.requires.filled
 
 pub returns-then-is_above-clause-rising : goal.returns-then-is_above-clause-rising
 returns-then-is_above-clause-rising g c =
@@ -47,7 +47,7 @@ returns-then-has-clause-put g c = λ value is.
 pub returns-then-has-clause-counted : goal.returns-then-has-clause-counted
 returns-then-has-clause-counted g c =
     set_length c.args.slots.now.items c.lower_count-at.result c.index.result.now c.args.slot (got g c) (there g c).1 c.requires.filled
-    ∙ ap (λ b. length (filled c.args.slots.now.items) + cond b 1 0) (none_is c.index.result.now.value c.is_none-more.result c.is_none-more.ensures)
+    ∙ ap (λ b. length (pairs_of_slots c.args.slots.now.items) + cond b 1 0) (none_is c.index.result.now.value c.is_none-more.result c.is_none-more.ensures)
 
 pub returns-then-has-clause-rising : goal.returns-then-has-clause-rising
 returns-then-has-clause-rising g c =
@@ -68,11 +68,11 @@ parts g c =
 
 pub returns-clause-put : goal.returns-clause-put
 returns-clause-put g c = λ value is.
-    ap filled c.in_ok-insert.ensures.items ∙ insert_put c.args.slots.now.items c.lower_count-at.result c.args.slot (parts g c) value is
+    ap pairs_of_slots c.in_ok-insert.ensures.items ∙ insert_put c.args.slots.now.items c.lower_count-at.result c.args.slot (parts g c) value is
 
 pub returns-clause-counted : goal.returns-clause-counted
 returns-clause-counted g c =
-    ap (λ (ss : List (Slot g.row.V.Denot)). length (filled ss)) c.in_ok-insert.ensures.items ∙ insert_length c.args.slots.now.items c.lower_count-at.result c.args.slot (parts g c) c.requires.filled
+    ap (λ (ss : List (Slot g.row.V.Denot)). length (pairs_of_slots ss)) c.in_ok-insert.ensures.items ∙ insert_length c.args.slots.now.items c.lower_count-at.result c.args.slot (parts g c) c.requires.filled
 
 pub returns-clause-rising : goal.returns-clause-rising
 returns-clause-rising g c =

@@ -1,5 +1,5 @@
 use Rattle.std.proofs.Common.{◌++◌, ap, sym, ◌∙◌}
-use Rattle.reply_text.specs.Shown.{shown_text}
+use Rattle.reply_text.specs.Logged.{shown_text}
 use Rattle.reply_text.proofs.LogLemmas.{shown_from-none, shown_from-more}
 use Rattle.reply_text.proofs.log.write_log.Goals as goal
 

@@ -1,5 +1,5 @@
 use Rattle.std.proofs.Common.{◌≡◌, take}
-use Rattle.reply_text.specs.Shown.{shown_from}
+use Rattle.reply_text.specs.Logged.{shown_from}
 use Rattle.reply_text.proofs.log.write_log.Given as goal
 
 abbrev pub invariant-entries : goal.invariant-entries

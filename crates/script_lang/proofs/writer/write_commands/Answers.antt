@@ -1,5 +1,5 @@
 use Rattle.std.proofs.Common.{length, ap, arith}
-use Rattle.script_lang.proofs.WritingLemmas.{commands_text-more, line_behind-more, commands_text-end}
+use Rattle.script_lang.proofs.WritingLemmas.{commands_text-more, first_free_line-more, commands_text-end}
 use Rattle.script_lang.proofs.writer.write_commands.Goals as goal
 
 pub commands-preserved : goal.commands-preserved
@@ -15,7 +15,7 @@ commands-preserved c =
           c.commands.invariant.written);
       behind =
           rw c.from-line.ensures
-          (line_behind-more c.commands.next c.commands.command-index _ c.command-item.result c.args.commands.now
+          (first_free_line-more c.commands.next c.commands.command-index _ c.command-item.result c.args.commands.now
           (omega (arith, size)) is c.commands.invariant.behind);
       bound = omega (arith, c.from-line.ensures);
     }

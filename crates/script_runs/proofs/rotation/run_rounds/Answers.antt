@@ -14,7 +14,7 @@ turns-init g c =
     let script = sections_of c.args.runners.now in
     let whole = rounds_steps seed c.args.rounds 0 (map state_of c.args.runners.now) in record {
       count = refl;
-      turn = retold g.M.Machine.leads seed script whole _ _ _ _ c.rounds.runners _
+      turn = retold g.M.Machine.reaches seed script whole _ _ _ _ c.rounds.runners _
           (λ told. round_begins seed script whole c.rounds.runners told c.args.rounds c.rounds.number c.rounds-test.true)
           c.rounds.invariant;
     }
@@ -33,7 +33,7 @@ turns-preserved g c =
     let seed = c.args.seed.now in
     let next = c.rounds.number + 1 in record {
       count = length-set c.turns.runners c.turns.i c.take_turn.new.runner ∙ count;
-      turn = goes_on g.M.Machine.leads seed (sections_of c.args.runners.now)
+      turn = goes_on g.M.Machine.reaches seed (sections_of c.args.runners.now)
           (rounds_steps seed c.args.rounds 0 (map state_of c.args.runners.now)) (rounds_steps seed (c.args.rounds - next) next)
           c.rounds.number c.turns.i c.turns.runners (get_or c.turns.runners c.turns.i c.index-runners-i.result)
           c.take_turn.new.runner _ _
@@ -49,7 +49,7 @@ rounds-preserved g c =
     let script = sections_of c.args.runners.now in
     let whole = rounds_steps seed c.args.rounds 0 (map state_of c.args.runners.now) in
     let next = c.rounds.number + 1 in
-    retold g.M.Machine.leads seed script whole _ _ _ _ c.turns.runners _
+    retold g.M.Machine.reaches seed script whole _ _ _ _ c.turns.runners _
     (λ told. round_over seed script whole c.turns.runners told (rounds_steps seed (c.args.rounds - next) next)
     c.rounds.number c.turns.i (omega (arith, above, count))) c.turns.invariant.turn
 
@@ -60,7 +60,7 @@ returns-clause-turned g c =
     let seed = c.args.seed.now in
     let script = sections_of c.args.runners.now in
     let whole = rounds_steps seed c.args.rounds 0 (map state_of c.args.runners.now) in
-    retold g.M.Machine.leads seed script whole _ _ _ _ c.rounds.runners _
+    retold g.M.Machine.reaches seed script whole _ _ _ _ c.rounds.runners _
     (λ told. rounds_over seed script whole c.rounds.runners told c.args.rounds c.rounds.number below above)
     c.rounds.invariant
 

@@ -1,9 +1,9 @@
 use Rattle.std.proofs.Common.{◌≡◌, ◌≤◌, length, refl, ap, sym, subst, arith}
 use Rattle.std.specs.Prelude.{All}
-use Rattle.fsc_commands.specs.declared.TheConstants.{MOST_CALLS}
+use Rattle.fsc_commands.specs.declared.TheConstants.{MAX_CALLS}
 use Rattle.fsc_session.specs.Asking.{AsksRightly}
 use Rattle.fsc_session.proofs.Asked.{spelled-few, spelled-asked}
-use Rattle.reply_text.specs.Shown.{shown_history}
+use Rattle.reply_text.specs.Logged.{logged_history}
 use Rattle.turn_lock.specs.Passes.{merged_entries}
 use Rattle.mount_shared.specs.SharedCalls.{MountPass}
 use Rattle.script_runs.specs.Passes.{calls_of}
@@ -20,7 +20,7 @@ overflow_cast-sections g c =
 
 pub run_all-requires-clause-can_run : goal.run_all-requires-clause-can_run
 run_all-requires-clause-can_run g c κs within =
-    first_runs MOST_CALLS c.in_ok-shared.shared c.as_slice-sections.result.now c.in_ok-shared.pass _ c.in-Some.calls c.in_ok-shared.ensures.pass refl
+    first_runs MAX_CALLS c.in_ok-shared.shared c.as_slice-sections.result.now c.in_ok-shared.pass _ c.in-Some.calls c.in_ok-shared.ensures.pass refl
     c.in-Some.ensures.some.0 (positive _ c.if-is_empty.ensures)
     (subst (All AsksRightly) (sym c.as_slice-sections.ensures) (spelled-asked c.args.script.now c.requires.spelled))
 
@@ -35,6 +35,6 @@ returns g c =
     let first : old.who ≡ 0 = ap (λ (pass : MountPass). pass.who) c.in_ok-shared.ensures.pass in
     tells_lawful g.M.Machine.lawful c.args.seed.now c.args.script.now old new told.entries.items told.notes.items history ran first c.end.ensures.callers
     c.sort_by_place.new.entries.items
-    (c.in_ok-sort_by_place.ensures.history (shown_history history)
+    (c.in_ok-sort_by_place.ensures.history (logged_history history)
     (told_history g.M.Machine.lawful c.args.seed.now c.args.script.now old new told.entries.items told.notes.items history ran first c.end.ensures.callers))
     c.end.ensures.lawful (in_range-merged (calls_of new) ran.ranged)

@@ -5,13 +5,13 @@ use Rattle.std.proofs.lemmas.List.{length_push}
 use Rattle.std.specs.List.{slice_split}
 use Rattle.script_words.specs.Path.{is_slash}
 use Rattle.script_words.proofs.PartSteps.{few_parts-many, few_parts-refused, few_parts-all, onto-more}
-use Rattle.script_words.specs.declared.limits.TheConstants.{MOST_PARTS}
+use Rattle.script_words.specs.declared.limits.TheConstants.{MAX_PARTS}
 use borrow.Author.Tests.{tests}
 use Rattle.script_words.proofs.path.read_parts.Goals as goal
 
-pub returns-then-len-ge-MOST_PARTS : goal.returns-then-len-ge-MOST_PARTS
-returns-then-len-ge-MOST_PARTS c =
-    let many : MOST_PARTS ≤ length c.pieces.yielded = omega (arith, c.pieces.invariant.count) in
+pub returns-then-len-ge-MAX_PARTS : goal.returns-then-len-ge-MAX_PARTS
+returns-then-len-ge-MAX_PARTS c =
+    let many : MAX_PARTS ≤ length c.pieces.yielded = omega (arith, c.pieces.invariant.count) in
     let pieces = YieldsList-at c.into_iter-piece-iterator.ensures.into_iter_gives
     (YieldsList-from_slice_split _ is_slash c.args.text.now c.split-piece-items.ensures.rest c.split-piece-items.ensures.done c.split-piece-items.ensures.closure (λ x b q k. (refl, grind (arith, tests, k.shows, k.called)))) in
     let turn = YieldsList-turn pieces c.pieces.yielded _ c.pieces.yielded_by _ _ c.in-Some.piece c.in-Some.is c.next.ensures.steps in
@@ -27,7 +27,7 @@ returns-in-None-2 c =
 
 pub pieces-preserved : goal.pieces-preserved
 pieces-preserved c =
-    let room : length c.pieces.parts + 1 ≤ MOST_PARTS = omega (arith, c.len.ensures) in
+    let room : length c.pieces.parts + 1 ≤ MAX_PARTS = omega (arith, c.len.ensures) in
     let pieces = YieldsList-at c.into_iter-piece-iterator.ensures.into_iter_gives
     (YieldsList-from_slice_split _ is_slash c.args.text.now c.split-piece-items.ensures.rest c.split-piece-items.ensures.done c.split-piece-items.ensures.closure (λ x b q k. (refl, grind (arith, tests, k.shows, k.called)))) in
     let turn = YieldsList-turn pieces c.pieces.yielded _ c.pieces.yielded_by _ _ c.in-Some.piece c.in-Some.is c.next.ensures.steps in
@@ -46,7 +46,7 @@ pieces-preserved c =
 
 pub returns : goal.returns
 returns c =
-    let few : length c.pieces.yielded ≤ MOST_PARTS = omega (arith, c.pieces.invariant.count, c.pieces.invariant.few) in
+    let few : length c.pieces.yielded ≤ MAX_PARTS = omega (arith, c.pieces.invariant.count, c.pieces.invariant.few) in
     let pieces = YieldsList-at c.into_iter-piece-iterator.ensures.into_iter_gives
     (YieldsList-from_slice_split _ is_slash c.args.text.now c.split-piece-items.ensures.rest c.split-piece-items.ensures.done c.split-piece-items.ensures.closure (λ x b q k. (refl, grind (arith, tests, k.shows, k.called)))) in
     let end = YieldsList-end pieces c.pieces.yielded _ c.pieces.yielded_by _ _ c.in-None.is c.next.ensures.steps in

@@ -1,7 +1,7 @@
 use Rattle.std.proofs.Common.{◌≡◌, ◌<◌, ◌*◌, ◌++◌, [], length, take, ◌∷◌, refl, sym, ap, ◌∙◌, arith}
 use Rattle.sha2.specs.Sha256.{sha256}
-use Rattle.image_lines.proofs.NodeLemmas.{nothing_left}
-use Rattle.image_lines.specs.Told.{blocks_at}
+use Rattle.image_lines.proofs.NodeLemmas.{end_of_record}
+use Rattle.image_lines.specs.WordForms.{blocks_at}
 use Rattle.text_words.specs.Lines.{pieces_of}
 use Rattle.byte_words.specs.Blocks.{first_blocks}
 use Rattle.data_crypt.specs.Blocks.{read_block}
@@ -30,7 +30,7 @@ blocks-2-preserved c =
     let index = c.blocks-2.index in
     let step : blocks_at (pieces_of c.blocks-2.rest.now) ≡ c.in-Some.block ∷ blocks_at (pieces_of c.next_line-line.result.rest.now) =
     one_block c.blocks-2.rest.now c.next_line-line.result.bytes.now c.next_line-line.result.rest.now c.next_line-line.result.ended c.in-Some.block c.next_line-line.ensures.pieces
-    (nothing_left c.next_line-line.result.ended c.blocks-2.rest.now c.next_line-line.result.rest.now c.next_line-line.ensures.ended c.next_line-line.ensures.rest)
+    (end_of_record c.next_line-line.result.ended c.blocks-2.rest.now c.next_line-line.result.rest.now c.next_line-line.ensures.ended c.next_line-line.ensures.rest)
     (sym c.read_block_line.ensures ∙ c.in-Some.is) in
     let first = first_is blocks index c.in-Some.block (blocks_at (pieces_of c.next_line-line.result.rest.now)) (sym c.blocks-2.invariant.lines ∙ step) in
     let opened : block_read seal blocks index ≡ c.read_block.new.block = ap (read_block seal index) first.0 ∙ sym c.read_block.ensures in

@@ -4,7 +4,7 @@ use Rattle.sha2.specs.Hashers.{Holds256}
 use Rattle.byte_words.specs.Blocks.{first_blocks}
 use Rattle.text_words.specs.Lines.{pieces_of}
 use Rattle.data_crypt.specs.Blocks.{read_block}
-use Rattle.image_lines.specs.Told.{blocks_at}
+use Rattle.image_lines.specs.WordForms.{blocks_at}
 use Rattle.data_crypt.specs.Ciphers.{seal_by}
 use Rattle.tree_listing.proofs.digest.digest_of.Given as goal
 

@@ -1,6 +1,6 @@
 use Rattle.std.proofs.Common.{◌≡◌, ◌≤◌, length, ◌+◌}
 use Rattle.text_words.specs.Lines.{pieces_of}
-use Rattle.image_lines.specs.Told.{entries_at}
+use Rattle.image_lines.specs.WordForms.{entries_at}
 use Rattle.tree_listing.proofs.entries.entry_count.Given as goal
 
 abbrev pub invariant-entries : goal.invariant-entries

@@ -5,7 +5,7 @@ use Rattle.text_words.specs.Lines.{pieces_of}
 use Rattle.disk_tree.specs.Nodes.{entries_of}
 use Rattle.image_lines.specs.Image.{ImageNode}
 use Rattle.image_lines.specs.Nodes.{node_in}
-use Rattle.image_lines.specs.Told.{body_at}
+use Rattle.image_lines.specs.WordForms.{body_at}
 use Rattle.tree_listing.specs.Walk.{AreFound}
 use Rattle.tree_listing.proofs.Members.{contains_from_in, in_from_get}
 use Rattle.tree_listing.proofs.LeadLemmas.{number_at}

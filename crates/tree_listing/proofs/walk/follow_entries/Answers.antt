@@ -3,9 +3,9 @@ use Rattle.std.proofs.lemmas.List.Elements.{All-append, All-cons, All-nil}
 use Rattle.text_words.specs.Lines.{pieces_of}
 use Rattle.disk_tree.specs.Entries.{Entries}
 use Rattle.image_lines.specs.ImageText.{image_text}
-use Rattle.image_lines.specs.Told.{entries_at}
+use Rattle.image_lines.specs.WordForms.{entries_at}
 use Rattle.tree_listing.specs.Walk.{AreFound, is_among}
-use Rattle.tree_listing.specs.Ways.{IsLedBy}
+use Rattle.tree_listing.specs.Ways.{IsEntryTo}
 use Rattle.tree_listing.proofs.WalkLemmas.{led_by, rest_within, among_more, found_more}
 use Rattle.tree_listing.proofs.walk.follow_entries.Goals as goal
 
@@ -13,7 +13,7 @@ pub lead_to-requires-clause-led : goal.lead_to-requires-clause-led
 lead_to-requires-clause-led c =
     let left = c.entries.invariant.left in
     let parts = ap (λ (l : Entries). left.0 ++ l) (sym c.in-Some.ensures.entries) ∙ left.1 in
-    subst (λ text. IsLedBy c.args.image.now c.in-Some.first.entry.child c.args.number (length text - length c.entries.rest.now)) (sym c.text-text.ensures.text)
+    subst (λ text. IsEntryTo c.args.image.now c.in-Some.first.entry.child c.args.number (length text - length c.entries.rest.now)) (sym c.text-text.ensures.text)
     (led_by c.args.image.now c.text-text.ensures.image.children c.args.number left.0 (entries_at (pieces_of c.in-Some.first.rest.now)) (entries_at (pieces_of c.args.lines.now))
     (c.in-Some.first.entry.name, c.in-Some.first.entry.child) c.entries.rest.now c.requires.own parts c.entries.invariant.end c.in-Some.ensures.line)
 

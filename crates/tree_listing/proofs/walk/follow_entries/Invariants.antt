@@ -3,7 +3,7 @@ use Rattle.text_words.specs.Lines.{pieces_of}
 use Rattle.disk_tree.specs.Entries.{Entries}
 use Rattle.image_lines.specs.ImageText.{image_text}
 use Rattle.image_lines.specs.Nodes.{IsRestOf}
-use Rattle.image_lines.specs.Told.{entries_at}
+use Rattle.image_lines.specs.WordForms.{entries_at}
 use Rattle.tree_listing.specs.Walk.{AreFound, GoesOn, IsWalk, is_among}
 use Rattle.tree_listing.proofs.walk.follow_entries.Given as goal
 

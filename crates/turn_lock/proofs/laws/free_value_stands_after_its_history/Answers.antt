@@ -8,8 +8,8 @@ returns g c numbers allowance s kept free =
       standing home.0 kept.history,
       record {
         home = home.1;
-        stands = home.2;
-        right = g.met.M.Machine.leads_lawful kept.history home.0 home.2;
+        is_reached = home.2;
+        right = g.met.M.Machine.reaches_lawful kept.history home.0 home.2;
         counted = ap (λ ws. slice_index ws 1) kept.words;
         seen = λ j v there. (kept.each j v there).begins;
         entries = λ j v there. (kept.each j v there).own;

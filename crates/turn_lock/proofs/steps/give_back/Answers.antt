@@ -7,5 +7,5 @@ swap-requires g c = (
   search rules,
   search rules,
   releases_at _ _ _ _ _ _ c.args.held.value (search rules) (search rules)
-      (subst (λ h. g.M.Machine.leads h c.args.held.value) (search rules) c.requires.stands) (search rules),
+      (subst (λ h. g.M.Machine.reaches h c.args.held.value) (search rules) c.requires.is_reached) (search rules),
 )

@@ -4,7 +4,7 @@ use Rattle.number_map.specs.Numbered.{changed}
 use Rattle.disk_tree.specs.Entries.{number_under, with_entry, without_entry}
 use Rattle.disk_tree.specs.Nodes.{on_body, with_entries}
 use Rattle.disk_tree.specs.DiskTree.{children}
-use Rattle.disk_tree.specs.EntryChanges.{moved}
+use Rattle.disk_tree.specs.EntryChanges.{with_moved_entry}
 use Rattle.disk_tree.proofs.DiskLemmas.{same_total, entries_keep, moved_either}
 use Rattle.disk_tree.proofs.tree.DiskTree.move_entry.Goals as goal
 
@@ -20,7 +20,7 @@ invariant_of-self c = (
 
 pub returns-in-Ok-clause-moved : goal.returns-in-Ok-clause-moved
 returns-in-Ok-clause-moved c =
-    let P : Option ℕ → Type 0 = λ o. IfSome o (λ number. c.remove_entry.new.nodes ≡ moved c.args.self.now c.args.dir c.args.name.now c.args.to c.args.new_name.now number) in
+    let P : Option ℕ → Type 0 = λ o. IfSome o (λ number. c.remove_entry.new.nodes ≡ with_moved_entry c.args.self.now c.args.dir c.args.name.now c.args.to c.args.new_name.now number) in
     let found : number_under c.args.name.now (children c.args.self.now c.args.dir) ≡ Some c.in-Some.number = sym c.entry.ensures ∙ c.in-Some.is in
     let put = on_body (with_entries (with_entry c.args.new_name.now c.in-Some.number)) in
     let taken = on_body (with_entries (without_entry c.args.name.now)) in

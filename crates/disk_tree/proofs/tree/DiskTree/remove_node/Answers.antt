@@ -6,14 +6,14 @@ use Rattle.disk_tree.proofs.tree.DiskTree.remove_node.Goals as goal
 
 pub overflow_sub-self : goal.overflow_sub-self
 overflow_sub-self c =
-    let gone : c.blocks_gone-gone.result ≡ length (blocks_in c.remove.result) = c.blocks_gone-gone.ensures in
+    let gone : c.count_of_blocks-gone.result ≡ length (blocks_in c.remove.result) = c.count_of_blocks-gone.ensures in
     let all = removed_total c.self.inside.nodes c.args.number in
     let counts = ap (λ o. length (blocks_in o)) c.remove.ensures.value in
     omega (arith, c.self.invariant.0, gone, all, counts)
 
 pub invariant_of-self : goal.invariant_of-self
 invariant_of-self c =
-    let gone : c.blocks_gone-gone.result ≡ length (blocks_in c.remove.result) = c.blocks_gone-gone.ensures in
+    let gone : c.count_of_blocks-gone.result ≡ length (blocks_in c.remove.result) = c.count_of_blocks-gone.ensures in
     let all = removed_total c.self.inside.nodes c.args.number in
     let counts = ap (λ o. length (blocks_in o)) c.remove.ensures.value in
     let left = ap block_total c.remove.ensures.removed in

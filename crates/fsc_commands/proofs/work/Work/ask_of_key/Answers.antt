@@ -8,4 +8,4 @@ returns-in_err-loaded g c =
 
 pub returns : goal.returns
 returns g c =
-    goes_on g.met.P.MountPort.by_more 4 c.finish.result (omega arith) c.in_ok-loaded.ensures (rw (c.key_op.ensures, c.key_wanted.ensures) at c.finish.ensures)
+    goes_on g.met.P.MountPort.by_more 4 c.finish.result (omega arith) c.in_ok-loaded.ensures (rw (c.key_op.ensures, c.expected_key_reply.ensures) at c.finish.ensures)

@@ -9,4 +9,4 @@ returns-in_err-loaded g c =
 pub returns : goal.returns
 returns g c =
     goes_on g.met.P.MountPort.by_more 4 c.finish.result (omega arith) c.in_ok-loaded.ensures
-    (rw (c.in_ok-meant.ensures.value, c.encode_policy.ensures, c.node_policy.ensures, c.nonce_drawn.ensures) at c.finish.ensures)
+    (rw (c.in_ok-meant.ensures.value, c.encode_policy.ensures, c.node_policy.ensures, c.derived_nonce.ensures) at c.finish.ensures)

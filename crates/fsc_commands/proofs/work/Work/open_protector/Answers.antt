@@ -1,13 +1,13 @@
 use Rattle.std.proofs.Common.{ℕ, List, [], ◌∷◌, ◌++◌, ap, ◌∙◌}
 use Rattle.mount_model.specs.declared.call.Op.TheVariants.{MetaLoad}
-use Rattle.fsc_commands.specs.CommandSteps.{called}
+use Rattle.fsc_commands.specs.CommandSteps.{call_of_caller}
 use Rattle.fsc_commands.proofs.WorkLemmas.{one_call}
 use Rattle.fsc_commands.proofs.work.Work.open_protector.Goals as goal
 
 pub returns-in-Ok : goal.returns-in-Ok
 returns-in-Ok g c =
-    one_call _ c.protector_opened-got.result (ap (λ (name : List ℕ). called c.args.self.now.turn.uid (MetaLoad name)) c.in_ok-name.ensures.value)
-    c.in_ok-placed.ensures.answered.came_by c.in_ok-placed.ensures.answered.shown c.in_ok-placed.ensures.answered.one_fewer
+    one_call _ c.unwrapped_protector-got.result (ap (λ (name : List ℕ). call_of_caller c.args.self.now.turn.uid (MetaLoad name)) c.in_ok-name.ensures.value)
+    c.in_ok-placed.ensures.answered.reached_by_call c.in_ok-placed.ensures.answered.shown c.in_ok-placed.ensures.answered.one_fewer
     (c.in-Ok.ensures.appended ∙ ap (λ l. l ++ c.in_ok-placed.placed ∷ []) c.in_ok-placed.ensures.answered.unlisted)
     (record { number = c.in_ok-placed.ensures.same.number; port = c.in_ok-placed.ensures.same.port; entries = c.in_ok-placed.ensures.same.entries })
-    c.protector_opened-got.ensures.value
+    c.unwrapped_protector-got.ensures.value

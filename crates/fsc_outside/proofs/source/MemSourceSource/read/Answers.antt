@@ -10,8 +10,8 @@ returns-clause-bytes c =
     (given c.self.inside.bytes.items c.deref.result.now c.give-count.new.piece c.self.inside.at c.self.inside.piece (length c.args.piece.now) c.give-count.result
     (omega arith) (omega arith) c.deref.ensures.value c.give-count.ensures.count c.give-count.ensures.front)
 
-pub returns-clause-came : goal.returns-clause-came
-returns-clause-came c =
+pub returns-clause-after_calls : goal.returns-clause-after_calls
+returns-clause-after_calls c =
     rw (← c.self.view_is) (record {
       reads = is_read {E = Failed} _ _ c.give-count.new.piece (Ok c.give-count.result)
           (given c.self.inside.bytes.items c.deref.result.now c.give-count.new.piece c.self.inside.at c.self.inside.piece (length c.args.piece.now) c.give-count.result

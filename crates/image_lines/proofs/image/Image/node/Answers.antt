@@ -3,7 +3,7 @@ use Rattle.std.specs.List.{after_first}
 use Rattle.text_words.specs.Lines.{is_line_feed, pieces_of}
 use Rattle.image_lines.specs.ImageText.{image_text}
 use Rattle.image_lines.specs.Nodes.{IsRestOf, text_after}
-use Rattle.image_lines.proofs.NodeLemmas.{text_is, begins, node_is, no_node_line, node_found, rest_found, index_within, nothing_left, is_image}
+use Rattle.image_lines.proofs.NodeLemmas.{text_is, begins, node_is, no_node_line, node_found, rest_found, index_within, end_of_record, is_image}
 use Rattle.image_lines.proofs.PlaceLemmas.{rest_at}
 use Rattle.image_lines.proofs.image.Image.node.Goals as goal
 
@@ -26,7 +26,7 @@ returns-clause-node c =
     ∙ node_found c.self.inside.text.now c.self.inside.places.items c.args.index c.index-place.result.now c.in-Some.field-0 c.next_line-line.result.bytes.now c.next_line-line.result.rest.now c.next_line-line.result.ended
     (index_within c.self.inside.text.now c.self.inside.places.items c.args.self.now c.args.index c.self.view_is c.requires) c.index-place.ensures
     (ap pieces_of (sym c.from_index.ensures) ∙ c.next_line-line.ensures.pieces)
-    (nothing_left c.next_line-line.result.ended c.from_index.result.now c.next_line-line.result.rest.now c.next_line-line.ensures.ended c.next_line-line.ensures.rest)
+    (end_of_record c.next_line-line.result.ended c.from_index.result.now c.next_line-line.result.rest.now c.next_line-line.ensures.ended c.next_line-line.ensures.rest)
     (sym c.read_node_line.ensures ∙ c.in-Some.is)
 
 pub returns-clause-rest : goal.returns-clause-rest
@@ -38,7 +38,7 @@ returns-clause-rest c =
     (node_is c.self.inside.text.now c.self.inside.places.items c.self.invariant.1 c.args.index c.index-place.result.now
     (index_within c.self.inside.text.now c.self.inside.places.items c.args.self.now c.args.index c.self.view_is c.requires) c.index-place.ensures))
     (sym c.from_index.ensures ∙ c.next_line-line.ensures.whole)
-    (nothing_left c.next_line-line.result.ended c.from_index.result.now c.next_line-line.result.rest.now c.next_line-line.ensures.ended c.next_line-line.ensures.rest))
+    (end_of_record c.next_line-line.result.ended c.from_index.result.now c.next_line-line.result.rest.now c.next_line-line.ensures.ended c.next_line-line.ensures.rest))
 
 pub returns-clause-after : goal.returns-clause-after
 returns-clause-after c =

@@ -1,7 +1,7 @@
 use Rattle.std.proofs.Common.{Some, None, sym, ap, ◌∙◌}
 use Rattle.std.specs.Option.{option_and_then}
 use Rattle.inode_refs.specs.declared.node_key.NodeKey.{NodeKey}
-use Rattle.inode_refs.specs.Cached.{Cache}
+use Rattle.inode_refs.specs.CacheMaps.{Cache}
 use Rattle.inode_refs.specs.Ciphers.{names_in, names_key_at}
 use Rattle.inode_refs.proofs.CacheLemmas.{key_cached}
 use Rattle.inode_refs.proofs.cache.InodeCache.cipher_of.Goals as goal

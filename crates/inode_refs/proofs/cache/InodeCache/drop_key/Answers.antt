@@ -1,9 +1,9 @@
 use Rattle.std.proofs.Common.{◌≡◌, ℕ, ◌+◌, Option, ap, ◌∙◌, sym, subst}
 use Rattle.std.specs.FinMap as map
 use Rattle.policy_ctx.specs.declared.policy.KeyId.{KeyId}
-use Rattle.inode_refs.specs.Cached.{Cache, KeyMap}
+use Rattle.inode_refs.specs.CacheMaps.{Cache, KeyMap}
 use Rattle.inode_refs.specs.Evictions.{users_of}
-use Rattle.inode_refs.specs.Kept.{keys_of, pins_in}
+use Rattle.inode_refs.specs.CacheRules.{keys_of, pins_in}
 use Rattle.inode_refs.specs.Users.{one_for, AreCounted}
 use Rattle.inode_refs.specs.KeyUsers.{user_at}
 use Rattle.inode_refs.proofs.UserLemmas.{users_dropped, counted_for}

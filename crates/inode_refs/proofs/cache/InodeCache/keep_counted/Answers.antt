@@ -2,9 +2,9 @@ use Rattle.std.proofs.Common.{◌≡◌, ℕ, ◌+◌, false, Option, Some, None
 use Rattle.std.specs.FinMap as map
 use Rattle.policy_ctx.specs.declared.policy.KeyId.{KeyId}
 use Rattle.inode_refs.specs.declared.node_key.NodeKey.{NodeKey}
-use Rattle.inode_refs.specs.Cached.{Cache}
+use Rattle.inode_refs.specs.CacheMaps.{Cache}
 use Rattle.inode_refs.specs.Evictions.{is_unpinned, users_of}
-use Rattle.inode_refs.specs.Kept.{keys_of, pins_in}
+use Rattle.inode_refs.specs.CacheRules.{keys_of, pins_in}
 use Rattle.inode_refs.specs.Users.{one_for}
 use Rattle.inode_refs.specs.KeyUsers.{id_at}
 use Rattle.inode_refs.proofs.CacheLemmas.{at_ok, at_err}
@@ -37,7 +37,7 @@ invariant_of-self c = record {
   counted =
       (let seen : Cache = record { keys = keys_of c.self.inside.keys.entries; pins = pins_in c.self.inside.pins.entries } in
       let there = has_key seen c.args.node c.in-Some.older (id_seen seen c.args.self.now c.self.view_is c.args.node c.requires (Some c.in-Some.older) c.in-Some.ensures) in
-      let keys = from_ok c.keep_in.result (c.keep_in.ensures.cached there) c.keep_in.ensures.kept in
+      let keys = from_ok c.cache_in.result (c.cache_in.ensures.cached there) c.cache_in.ensures.kept in
       c.exchange.ensures (users_of seen) _ c.self.invariant.counted
       (λ q. (λ i. users_of (record { keys = keys i; pins = seen.pins }) q + one_for (Some c.in-Some.older) q)
       ∙ other seen c.args.self.now c.self.view_is c.args.node c.requires (Some c.in-Some.older) c.in-Some.ensures c.args.key q));
@@ -62,7 +62,7 @@ pub invariant_of-self-then-is_err-2 : goal.invariant_of-self-then-is_err-2
 invariant_of-self-then-is_err-2 c = record {
   counted =
       (let seen : Cache = record { keys = keys_of c.self.inside.keys.entries; pins = pins_in c.self.inside.pins.entries } in
-      let keys = at_err c.keep_in-2.result (sym c.is_err-2.ensures.value ∙ c.if-is_err-2.true) c.keep_in-2.ensures.as_before in
+      let keys = at_err c.cache_in-2.result (sym c.is_err-2.ensures.value ∙ c.if-is_err-2.true) c.cache_in-2.ensures.as_before in
       counted_alike c.less.new.self (users_of seen) _
       (c.less.ensures (λ q. users_of seen q + one_for (Some c.args.key.id) q) (users_of seen)
       (at_ok c.more.result (sym c.is_err.ensures.value ∙ c.if-is_err.false) c.more.ensures.more (users_of seen) _ c.self.invariant.counted (λ q. refl)) (λ q. refl))
@@ -74,7 +74,7 @@ pub invariant_of-self-else-is_err-2 : goal.invariant_of-self-else-is_err-2
 invariant_of-self-else-is_err-2 c = record {
   counted =
       (let seen : Cache = record { keys = keys_of c.self.inside.keys.entries; pins = pins_in c.self.inside.pins.entries } in
-      let keys = at_ok c.keep_in-2.result (sym c.is_err-2.ensures.value ∙ c.if-is_err-2.false) c.keep_in-2.ensures.kept in
+      let keys = at_ok c.cache_in-2.result (sym c.is_err-2.ensures.value ∙ c.if-is_err-2.false) c.cache_in-2.ensures.kept in
       at_ok c.more.result (sym c.is_err.ensures.value ∙ c.if-is_err.false) c.more.ensures.more (users_of seen) _ c.self.invariant.counted
       (λ q. (λ i. users_of (record { keys = keys i; pins = seen.pins }) q)
       ∙ let first = other seen c.args.self.now c.self.view_is c.args.node c.requires None c.in_default.ensures c.args.key q in omega arith));

@@ -1,7 +1,7 @@
 use Rattle.std.proofs.Common.{Some, None, sym, ap, ◌∙◌}
 use Rattle.std.specs.Option.{option_map}
 use Rattle.inode_refs.specs.declared.node_key.NodeKey.{NodeKey}
-use Rattle.inode_refs.specs.Cached.{Cache, key_at}
+use Rattle.inode_refs.specs.CacheMaps.{Cache, key_at}
 use Rattle.inode_refs.proofs.CacheLemmas.{key_cached}
 use Rattle.inode_refs.proofs.cache.InodeCache.key_of.Goals as goal
 

@@ -1,9 +1,9 @@
 use Rattle.std.proofs.Common.{◌≡◌, ℕ, ◌+◌, Option, refl, sym, ap, subst, ◌∙◌}
 use Rattle.policy_ctx.specs.declared.policy.KeyId.{KeyId}
 use Rattle.inode_refs.specs.declared.node_key.NodeKey.{NodeKey}
-use Rattle.inode_refs.specs.Cached.{Cache, pins_at, pins_of, with_pins, given}
+use Rattle.inode_refs.specs.CacheMaps.{Cache, pins_at, pins_of, with_pins, with_pinned_key}
 use Rattle.inode_refs.specs.Evictions.{users_of}
-use Rattle.inode_refs.specs.Kept.{keys_of, pins_in}
+use Rattle.inode_refs.specs.CacheRules.{keys_of, pins_in}
 use Rattle.inode_refs.specs.Users.{one_for, HasPins}
 use Rattle.inode_refs.specs.KeyUsers.{coming}
 use Rattle.inode_refs.proofs.CacheLemmas.{at_ok, at_err}
@@ -13,7 +13,7 @@ use Rattle.inode_refs.proofs.cache.InodeCache.pin.Goals as goal
 
 -- the users once the node is pinned, with the new one
 more : (seen now : Cache) → seen ≡ now → (node : ℕ) (key : Option NodeKey) (user : Option KeyId) → user ≡ coming now node key → (q : KeyId)
-    → users_of (record { keys = given seen.keys node key; pins = with_pins seen.pins node (pins_of seen node + 1) }) q ≡ users_of seen q + one_for user q
+    → users_of (record { keys = with_pinned_key seen.keys node key; pins = with_pins seen.pins node (pins_of seen node + 1) }) q ≡ users_of seen q + one_for user q
 more seen now same node key user is q =
     users_pinned seen node key q ∙ ap (λ o. users_of seen q + one_for o q) (ap (λ (v : Cache). coming v node key) same ∙ sym is)
 

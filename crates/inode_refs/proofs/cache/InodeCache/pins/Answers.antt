@@ -1,5 +1,5 @@
 use Rattle.std.proofs.Common.{ap, ◌∙◌}
-use Rattle.inode_refs.specs.Cached.{Cache, pins_of}
+use Rattle.inode_refs.specs.CacheMaps.{Cache, pins_of}
 use Rattle.inode_refs.proofs.CacheLemmas.{pins_seen}
 use Rattle.inode_refs.proofs.cache.InodeCache.pins.Goals as goal
 

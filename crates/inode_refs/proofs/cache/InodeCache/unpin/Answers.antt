@@ -1,9 +1,9 @@
 use Rattle.std.proofs.Common.{◌-◌, ◌<◌, ap, ◌∙◌, sym, subst}
 use Rattle.std.proofs.Common.{◌≡◌, ℕ, ◌+◌, Option}
 use Rattle.policy_ctx.specs.declared.policy.KeyId.{KeyId}
-use Rattle.inode_refs.specs.Cached.{Cache, PinMap, pins_of, with_pins}
+use Rattle.inode_refs.specs.CacheMaps.{Cache, PinMap, pins_of, with_pins}
 use Rattle.inode_refs.specs.Evictions.{users_of}
-use Rattle.inode_refs.specs.Kept.{keys_of, pins_in}
+use Rattle.inode_refs.specs.CacheRules.{keys_of, pins_in}
 use Rattle.inode_refs.specs.Users.{one_for, AreCounted, HasPins}
 use Rattle.inode_refs.specs.KeyUsers.{leaving}
 use Rattle.inode_refs.proofs.CacheLemmas.{pins_seen, pins_less}

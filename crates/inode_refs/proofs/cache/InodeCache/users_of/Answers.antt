@@ -4,9 +4,9 @@ use Rattle.std.specs.Ordering.{nat_cmp}
 use Rattle.std.proofs.lemmas.Map.Keys.{IsDistinct-from_sorted}
 use Rattle.policy_ctx.specs.KeyIds.{same_id}
 use Rattle.inode_refs.specs.declared.node_key.NodeKey.{NodeKey}
-use Rattle.inode_refs.specs.Cached.{Cache, pins_at}
+use Rattle.inode_refs.specs.CacheMaps.{Cache, pins_at}
 use Rattle.inode_refs.specs.Evictions.{users_of, is_unpinned, has_id}
-use Rattle.inode_refs.specs.Kept.{keys_of, pins_in, is_user}
+use Rattle.inode_refs.specs.CacheRules.{keys_of, pins_in, is_user}
 use Rattle.inode_refs.proofs.CacheLemmas.{len-left}
 use Rattle.inode_refs.proofs.cache.InodeCache.users_of.Goals as goal
 

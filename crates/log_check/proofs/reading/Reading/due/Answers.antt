@@ -6,7 +6,7 @@ use Rattle.log_check.proofs.reading.Reading.due.Goals as goal
 
 pub returns-in_ok-line-in-Some : goal.returns-in_ok-line-in-Some
 returns-in_ok-line-in-Some g c = λ seed script whole h read stand.
-    line_due _ g.met.T.OneThread.led_lawful seed script whole _ _ h _ _ _ c.in-Some.number c.caller-caller.result c.in-Some.call _ c.line-command.result
+    line_due _ g.met.T.OneThread.reached_lawful seed script whole _ _ h _ _ _ c.in-Some.number c.caller-caller.result c.in-Some.call _ c.line-command.result
     (rw (c.as_slice.ensures.value, c.in-Some.is) at c.in_ok-number.ensures)
     (λ caller here. c.caller-caller.ensures ∙ ap (λ (v : CallerView). v.caller) (is_there c.args.self.now.callers.items c.in-Some.number c.index-own.result.now caller c.index-own.ensures here))
     (λ caller here. c.line-command.ensures ∙ ap line_at (is_there c.args.self.now.callers.items c.in-Some.number c.index-own.result.now caller c.index-own.ensures here))

@@ -13,15 +13,15 @@ index-requires g c =
     let within = whose_within _ _ _ c.in-Some.number c.in-Some.call (rw (c.as_slice.ensures.value, c.in-Some.is) at c.in_ok-found.ensures) in
     omega arith
 
-pub returns-in_default-replied-clause-read : goal.returns-in_default-replied-clause-read
-returns-in_default-replied-clause-read g c =
+pub returns-in_default-read_reply-clause-read : goal.returns-in_default-read_reply-clause-read
+returns-in_default-read_reply-clause-read g c =
     let whose = rw (c.as_slice.ensures.value, c.in-Some.is) at c.in_ok-found.ensures in (
       refl,
       refl,
       refl,
       λ script whole h read stand. blocked_unreplied _ _ _ script _ _ h _ _ c.in-Some.number c.caller-caller.result c.in-Some.call (omega arith)
           (λ caller here. c.caller-caller.ensures ∙ ap (λ (v : CallerView). v.caller) (is_there c.args.self.now.callers.items c.in-Some.number c.index.result.now caller c.index.ensures here))
-          whose (rw c.in_default-replied.is at c.in_ok-replied.ensures) stand,
+          whose (rw c.in_default-read_reply.is at c.in_ok-read_reply.ensures) stand,
     )
 
 pub index_mut-requires : goal.index_mut-requires
@@ -37,25 +37,25 @@ take-requires g c =
 
 pub returns-clause-room : goal.returns-clause-room
 returns-clause-room g c =
-    let replied = rw c.in-Some-replied.is at c.in_ok-replied.ensures in
-    let shorter = behind_shorter _ _ _ _ replied.line in
+    let read_reply = rw c.in-Some-read_reply.is at c.in_ok-read_reply.ensures in
+    let shorter = behind_shorter _ _ _ _ read_reply.line in
     let room = c.requires.room in
     omega arith
 
 pub returns-clause-read : goal.returns-clause-read
 returns-clause-read g c =
     let whose = rw (c.as_slice.ensures.value, c.in-Some.is) at c.in_ok-found.ensures in
-    let replied = rw c.in-Some-replied.is at c.in_ok-replied.ensures in
-    let shorter = behind_shorter _ _ _ _ replied.line in
+    let read_reply = rw c.in-Some-read_reply.is at c.in_ok-read_reply.ensures in
+    let shorter = behind_shorter _ _ _ _ read_reply.line in
     let room = c.requires.room in (
       shorter,
       refl,
       λ script whole h read stand.
-          line_read _ _ g.met.T.OneThread.led_lawful _ script whole _ _ _ h _ _ _ _ c.in-Some.number c.caller-caller.result c.take.new.self c.in-Some.call c.in-Some-replied.reply (omega arith)
+          line_read _ _ g.met.T.OneThread.reached_lawful _ script whole _ _ _ h _ _ _ _ c.in-Some.number c.caller-caller.result c.take.new.self c.in-Some.call c.in-Some-read_reply.reply (omega arith)
           (λ caller here. (
             c.caller-caller.ensures ∙ ap (λ (v : CallerView). v.caller) (is_there c.args.self.now.callers.items c.in-Some.number c.index.result.now caller c.index.ensures here),
-            subst (λ (v : CallerView). TakesReply c.args.seed.now c.in-Some.call c.in-Some-replied.reply v c.take.new.self) (is_there c.args.self.now.callers.items c.in-Some.number c.index_mut.result.now caller c.index_mut.ensures.value here)
+            subst (λ (v : CallerView). TakesReply c.args.seed.now c.in-Some.call c.in-Some-read_reply.reply v c.take.new.self) (is_there c.args.self.now.callers.items c.in-Some.number c.index_mut.result.now caller c.index_mut.ensures.value here)
                 (c.in_ok-take.ensures.caller, c.in_ok-take.ensures.section, c.in_ok-take.ensures.awaits),
           ))
-          refl whose replied read stand,
+          refl whose read_reply read stand,
     )

@@ -28,7 +28,7 @@ returns-in_default-clause-stored c = IfOk-weaker c.append.result _ _
 new_fault : (c : goal.After-append)
     → store_fault c.args.self.now c.args.name.now c.args.expected c.args.bytes.now
     ≡ append_fault (length c.self.inside.records.items) c.args.expected
-new_fault c = seen_new_fault c.args.self.now c.self.inside.records.items c.args.name.now c.self.view_is c.args.expected c.args.bytes.now c.if-bytes-gt-MOST_RECORD_BYTES.false (sym (c.self.invariant c.args.name.now) ∙ sym c.in_default.ensures)
+new_fault c = seen_new_fault c.args.self.now c.self.inside.records.items c.args.name.now c.self.view_is c.args.expected c.args.bytes.now c.if-bytes-gt-MAX_RECORD_BYTES.false (sym (c.self.invariant c.args.name.now) ∙ sym c.in_default.ensures)
 
 pub returns-in_default-clause-refused : goal.returns-in_default-clause-refused
 returns-in_default-clause-refused c =
@@ -40,17 +40,17 @@ returns-in_default-clause-accepted c =
 
 pub returns-in_err-version-clause-refused : goal.returns-in_err-version-clause-refused
 returns-in_err-version-clause-refused c =
-    let due = seen_fault c.args.self.now c.self.inside.records.items c.args.name.now c.self.view_is c.in-Some.place (sym (c.self.invariant c.args.name.now) ∙ sym c.in-Some.ensures) c.index.result.now c.index.ensures c.args.expected c.args.bytes.now c.if-bytes-gt-MOST_RECORD_BYTES.false in
+    let due = seen_fault c.args.self.now c.self.inside.records.items c.args.name.now c.self.view_is c.in-Some.place (sym (c.self.invariant c.args.name.now) ∙ sym c.in-Some.ensures) c.index.result.now c.index.ensures c.args.expected c.args.bytes.now c.if-bytes-gt-MAX_RECORD_BYTES.false in
     subst (λ o. IfSome o (λ fault. c.from_residual.result ≡ Err fault)) (sym due) (search rules)
 
 pub returns-in_err-version-clause-accepted : goal.returns-in_err-version-clause-accepted
 returns-in_err-version-clause-accepted c =
-    let due = seen_fault c.args.self.now c.self.inside.records.items c.args.name.now c.self.view_is c.in-Some.place (sym (c.self.invariant c.args.name.now) ∙ sym c.in-Some.ensures) c.index.result.now c.index.ensures c.args.expected c.args.bytes.now c.if-bytes-gt-MOST_RECORD_BYTES.false in
+    let due = seen_fault c.args.self.now c.self.inside.records.items c.args.name.now c.self.view_is c.in-Some.place (sym (c.self.invariant c.args.name.now) ∙ sym c.in-Some.ensures) c.index.result.now c.index.ensures c.args.expected c.args.bytes.now c.if-bytes-gt-MAX_RECORD_BYTES.false in
     subst (λ o. IfNone o (IsOkUnless c.from_residual.result NoMemory)) (sym due) (search rules)
 
 pub returns-in_err-from_slice-clause-refused : goal.returns-in_err-from_slice-clause-refused
 returns-in_err-from_slice-clause-refused c =
-    let due = seen_fault c.args.self.now c.self.inside.records.items c.args.name.now c.self.view_is c.in-Some.place (sym (c.self.invariant c.args.name.now) ∙ sym c.in-Some.ensures) c.index.result.now c.index.ensures c.args.expected c.args.bytes.now c.if-bytes-gt-MOST_RECORD_BYTES.false in
+    let due = seen_fault c.args.self.now c.self.inside.records.items c.args.name.now c.self.view_is c.in-Some.place (sym (c.self.invariant c.args.name.now) ∙ sym c.in-Some.ensures) c.index.result.now c.index.ensures c.args.expected c.args.bytes.now c.if-bytes-gt-MAX_RECORD_BYTES.false in
     let none = None-from_Ok _ c.in_ok-version.version c.in_ok-version.ensures.refused in
     subst (λ o. IfSome o (λ fault. c.from_residual-in_err-from_slice.result ≡ Err fault))
     (sym (due ∙ none)) tt
@@ -71,7 +71,7 @@ returns-clause-stored c =
 
 pub returns-clause-refused : goal.returns-clause-refused
 returns-clause-refused c =
-    let due = seen_fault c.args.self.now c.self.inside.records.items c.args.name.now c.self.view_is c.in-Some.place (sym (c.self.invariant c.args.name.now) ∙ sym c.in-Some.ensures) c.index.result.now c.index.ensures c.args.expected c.args.bytes.now c.if-bytes-gt-MOST_RECORD_BYTES.false in
+    let due = seen_fault c.args.self.now c.self.inside.records.items c.args.name.now c.self.view_is c.in-Some.place (sym (c.self.invariant c.args.name.now) ∙ sym c.in-Some.ensures) c.index.result.now c.index.ensures c.args.expected c.args.bytes.now c.if-bytes-gt-MAX_RECORD_BYTES.false in
     let none = None-from_Ok _ c.in_ok-version.version c.in_ok-version.ensures.refused in
     let nothing : store_fault c.args.self.now c.args.name.now c.args.expected c.args.bytes.now ≡ None =
     due ∙ none in

@@ -1,6 +1,6 @@
 use Rattle.std.proofs.Common.{rules, ◌≡◌, ℕ, List, [], ◌∷◌, ◌++◌, length, ap, ◌∙◌}
 use Rattle.plain_tree.specs.Nodes.{Name}
-use Rattle.mount_names.specs.Packed.{parts_of}
+use Rattle.mount_names.specs.PackedNames.{parts_of}
 use Rattle.mount_names.proofs.PackedLemmas.{one_more}
 use Rattle.mount_names.proofs.packed_names.PackedNames.push.Goals as goal
 

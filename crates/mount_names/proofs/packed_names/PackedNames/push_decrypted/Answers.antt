@@ -3,7 +3,7 @@ use Rattle.std.proofs.Common.{rules, ◌≡◌, ℕ, List, [], ◌∷◌, ◌++�
 use Rattle.std.proofs.lemmas.List.{take_at, drop_at}
 use Rattle.name_crypt.specs.StoredName.{plain_name}
 use Rattle.plain_tree.specs.Nodes.{Name}
-use Rattle.mount_names.specs.Packed.{parts_of}
+use Rattle.mount_names.specs.PackedNames.{parts_of}
 use Rattle.mount_names.proofs.PackedLemmas.{one_more}
 use Rattle.mount_names.proofs.packed_names.PackedNames.push_decrypted.Goals as goal
 

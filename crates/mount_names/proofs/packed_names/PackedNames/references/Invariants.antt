@@ -2,8 +2,8 @@
 -- all.
 use Rattle.std.proofs.Common.{◌≡◌, ◌++◌, length, drop}
 use Rattle.std.specs.List.{sum}
-use Rattle.mount_names.specs.Listed.{names_of}
-use Rattle.mount_names.specs.Packed.{parts_of}
+use Rattle.mount_names.specs.NamePages.{names_of}
+use Rattle.mount_names.specs.PackedNames.{parts_of}
 use Rattle.mount_names.proofs.packed_names.PackedNames.references.Given as goal
 
 abbrev pub invariant-each : goal.invariant-each

@@ -1,7 +1,7 @@
 use Rattle.std.proofs.Common.{◌≡◌, ℕ, ◌+◌, ◌<◌, ◌^◌, cond, Some, None, [], ◌∷◌, ◌++◌, sym, ap, ◌∙◌, subst}
 use Rattle.std.specs.Ordering.{eq_by_cmp}
 use Rattle.std.specs.BTreeMap as tree
-use Rattle.number_map.specs.Numbered.{Numbered}
+use Rattle.number_map.specs.Numbered.{NumberedValues}
 use Rattle.inode_refs.proofs.CacheLemmas.{at_ok, at_err}
 use Rattle.mount_model.specs.PlainMount.{HandleList}
 use Rattle.mount_model.specs.OpenHandles.{opens_of}
@@ -31,7 +31,7 @@ invariant_of-self-then-is_err-2 c =
     (λ q. put q ∙ ap (λ n. cond (eq_by_cmp pair_cmp (c.args.caller, n) q) (Some c.args.node) (tree.get pair_cmp c.self.inside.index q)) number)
     (λ q. c.remove.ensures.updates.0 q ∙ ap (λ n. cond (eq_by_cmp pair_cmp (c.args.caller, n) q) None (tree.get pair_cmp c.insert.new.self q)) number) in
     subst (λ (hs : HandleList). IsIndexed hs c.remove.new.self (opened_in c.one_more.new.counts.entries)) (sym c.reserve.ensures.items)
-    (subst (λ (o : Numbered ℕ). IsIndexed c.self.inside.live.items c.remove.new.self o) (sym same) kept)
+    (subst (λ (o : NumberedValues ℕ). IsIndexed c.self.inside.live.items c.remove.new.self o) (sym same) kept)
 
 pub invariant_of-self-2 : goal.invariant_of-self-2
 invariant_of-self-2 c =
@@ -44,7 +44,7 @@ invariant_of-self-2 c =
     let pushed : c.push.new.self.items ≡ c.self.inside.live.items ++ record { caller = c.args.caller; number = opens_of (opened_in c.self.inside.opened.entries) c.args.caller; node = c.args.node } ∷ []
     = c.in-Ok.ensures.items ∙ (λ i. c.reserve.ensures.items i ++ record { caller = c.args.caller; number = number i; node = c.args.node } ∷ []) in
     subst (λ (hs : HandleList). IsIndexed hs c.insert.new.self (opened_in c.one_more.new.counts.entries)) (sym pushed)
-    (subst (λ (o : Numbered ℕ). IsIndexed (c.self.inside.live.items ++ record { caller = c.args.caller; number = opens_of (opened_in c.self.inside.opened.entries) c.args.caller; node = c.args.node } ∷ []) c.insert.new.self o) (sym counted) kept)
+    (subst (λ (o : NumberedValues ℕ). IsIndexed (c.self.inside.live.items ++ record { caller = c.args.caller; number = opens_of (opened_in c.self.inside.opened.entries) c.args.caller; node = c.args.node } ∷ []) c.insert.new.self o) (sym counted) kept)
 
 pub returns-clause-opened : goal.returns-clause-opened
 returns-clause-opened c =

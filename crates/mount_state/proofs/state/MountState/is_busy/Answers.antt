@@ -10,8 +10,8 @@ returns-then-users_of-gt0-clause-value c =
     lt-ltb 0 c.users_of.result c.if-users_of-gt0.true
     ∙ sym (inode_busy s.disk s.ring s.inodes s.modes s.handles.live s.forgets c.args.id.now (subst (λ n. 0 < n) c.users_of.ensures c.if-users_of-gt0.true))
 
-pub returns-then-users_of-gt0-clause-stands : goal.returns-then-users_of-gt0-clause-stands
-returns-then-users_of-gt0-clause-stands c m st =
+pub returns-then-users_of-gt0-clause-represents : goal.returns-then-users_of-gt0-clause-represents
+returns-then-users_of-gt0-clause-represents c m st =
     let s = c.args.self.now in
     returns-then-users_of-gt0-clause-value c ∙ busy_stands s.disk s.next_node m st.well st.tree s.handles.live st.handles.live c.args.id.now
 
@@ -26,7 +26,7 @@ returns-else-users_of-gt0-clause-value c =
           ∙ sym (not_busy s.disk s.ring s.inodes s.modes s.handles.live s.forgets c.args.id.now (subst (λ n. n ≤ 0) c.users_of.ensures c.if-users_of-gt0.false) (subst (λ n. n ≤ 0) modes none))
     ]
 
-pub returns-else-users_of-gt0-clause-stands : goal.returns-else-users_of-gt0-clause-stands
-returns-else-users_of-gt0-clause-stands c m st =
+pub returns-else-users_of-gt0-clause-represents : goal.returns-else-users_of-gt0-clause-represents
+returns-else-users_of-gt0-clause-represents c m st =
     let s = c.args.self.now in
     returns-else-users_of-gt0-clause-value c ∙ busy_stands s.disk s.next_node m st.well st.tree s.handles.live st.handles.live c.args.id.now

@@ -1,13 +1,13 @@
 use Rattle.std.proofs.Common.{◌≡◌, ◌-◌, length}
 use Rattle.mount_model.specs.Port.{PlacedCalls}
-use Rattle.next_calls.specs.EntriesSoFar.{StandsIn}
+use Rattle.next_calls.specs.EntriesSoFar.{IsCallerAfter}
 use Rattle.next_calls.proofs.caller.Caller.go_on.Given as goal
 
 abbrev pub invariant-commands : goal.invariant-commands
 invariant-commands g l = record {
   caller : l.self.caller ≡ l.fn.self.caller;
   section : l.self.section ≡ l.fn.self.section;
-  stands : (placed : PlacedCalls) → StandsIn l.seed l.fn.self placed → StandsIn l.seed l.self placed;
+  is_after : (placed : PlacedCalls) → IsCallerAfter l.seed l.fn.self placed → IsCallerAfter l.seed l.self placed;
 }
 
 abbrev pub decreases-commands : goal.decreases-commands

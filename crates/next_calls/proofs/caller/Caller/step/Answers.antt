@@ -22,6 +22,6 @@ pub returns-in_ok-note-in-Ended-clause-goes_on : goal.returns-in_ok-note-in-Ende
 returns-in_ok-note-in-Ended-clause-goes_on g c =
     let i = c.self.inside in
     let here = there _ _ _ _ c.as_slice-commands.ensures c.self.invariant.1 c.if-self-commands.false c.index-commands-self.is in
-    λ placed so. command_ended c.args.seed.now i.caller i.section.now i.next i.listing c.next_call.new.entries c.keep_last_listing.new.entries i.replies.items c.next_call.new.replies.items
+    λ placed so. command_ended c.args.seed.now i.caller i.section.now i.next i.listing c.next_call.new.entries c.retain_last_listing.new.entries i.replies.items c.next_call.new.replies.items
     i.notes c.note.new.notes i.waiting c.args.self.now placed c.index-commands-self.result c.in_ok-next.next c.in-Ended.outcome c.self.view_is here
-    c.in_ok-next.ensures.next c.in_ok-next.ensures.replies c.in-Ended.is c.in_ok-keep_last_listing-in-Ended.ensures c.in_ok-note-in-Ended.ensures.noted so
+    c.in_ok-next.ensures.next c.in_ok-next.ensures.replies c.in-Ended.is c.in_ok-retain_last_listing-in-Ended.ensures c.in_ok-note-in-Ended.ensures.noted so

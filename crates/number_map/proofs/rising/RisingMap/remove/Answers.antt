@@ -2,7 +2,7 @@
 use Rattle.std.proofs.Common.{◌≡◌, ◌<◌, ◌+◌, ℕ, List, length, sym, ap, subst, ◌∙◌, arith}
 use Rattle.std.specs.Map.{remove_entry}
 use Rattle.std.specs.Ordering.{nat_cmp, eq_by_cmp}
-use Rattle.number_map.specs.Rising.{value_at, filled}
+use Rattle.number_map.specs.Rising.{value_at, pairs_of_slots}
 use Rattle.number_map.specs.declared.row.Slot.{Slot}
 use Rattle.number_map.proofs.RowLemmas.{keys_rise, none_removed}
 use Rattle.number_map.proofs.RisingLemmas.{gone_here}
@@ -17,7 +17,7 @@ pub returns-in_err-at-clause-removed : goal.returns-in_err-at-clause-removed
 returns-in_err-at-clause-removed g c =
     none_removed c.args.number c.args.self.now
     (ap (λ (es : List (ℕ × g.row.V.Denot)). value_at es c.args.number) (sym c.self.view_is)
-    ∙ ap (λ (ss : List (Slot g.row.V.Denot)). value_at (filled ss) c.args.number) (sym c.as_slice.ensures.value)
+    ∙ ap (λ (ss : List (Slot g.row.V.Denot)). value_at (pairs_of_slots ss) c.args.number) (sym c.as_slice.ensures.value)
     ∙ c.in_err-at.ensures.none)
 
 pub returns-in_err-at-clause-rising : goal.returns-in_err-at-clause-rising
@@ -48,7 +48,7 @@ returns-in_err-gone-clause-removed g c = (empty g c).gone ∙ ap (remove_entry (
 pub returns-in_err-gone-clause-gone : goal.returns-in_err-gone-clause-gone
 returns-in_err-gone-clause-gone g c =
     ap (λ (es : List (ℕ × g.row.V.Denot)). value_at es c.args.number) (empty g c).gone
-    ∙ gone_here c.args.number (filled c.self.inside.slots.items) (keys_rise c.self.inside.slots.items c.self.invariant.rising)
+    ∙ gone_here c.args.number (pairs_of_slots c.self.inside.slots.items) (keys_rise c.self.inside.slots.items c.self.invariant.rising)
 
 pub returns-in_err-gone-clause-rising : goal.returns-in_err-gone-clause-rising
 returns-in_err-gone-clause-rising g c = keys_rise c.take_value.new.slots.items (empty g c).rising
@@ -61,7 +61,7 @@ some g c =
     (subst (λ (ss : List (Slot g.row.V.Denot)). (c.in_ok-at.at < length ss) × (at_place ss c.in_ok-at.at ≡ c.args.number)) c.as_slice.ensures.value c.in_ok-at.ensures.found)
     c.take_value.ensures
 
-one_more : (g : Over) (c : goal.In_ok-gone g) → c.self.inside.count ≡ length (filled c.take_value.new.slots.items) + 1
+one_more : (g : Over) (c : goal.In_ok-gone g) → c.self.inside.count ≡ length (pairs_of_slots c.take_value.new.slots.items) + 1
 one_more g c = taken_some c.self.inside.slots.items c.take_value.new.slots.items c.args.number c.self.inside.count c.take_value.result c.in_ok-gone.gone (some g c) c.in_ok-gone.was c.self.invariant.counted
 
 pub overflow_sub-self : goal.overflow_sub-self
@@ -73,13 +73,13 @@ left g c =
     (subst (λ (ss : List (Slot g.row.V.Denot)). (c.in_ok-at.at < length ss) × (at_place ss c.in_ok-at.at ≡ c.args.number)) c.as_slice.ensures.value c.in_ok-at.ensures.found)
     c.take_value.ensures
 
-one_less : (g : Over) (c : goal.After-shorten g) → c.self.inside.count ≡ length (filled c.take_value.new.slots.items) + 1
+one_less : (g : Over) (c : goal.After-shorten g) → c.self.inside.count ≡ length (pairs_of_slots c.take_value.new.slots.items) + 1
 one_less g c = taken_some c.self.inside.slots.items c.take_value.new.slots.items c.args.number c.self.inside.count c.take_value.result c.in_ok-gone.gone (left g c) c.in_ok-gone.was c.self.invariant.counted
 
 pub invariant_of-self-2 : goal.invariant_of-self-2
 invariant_of-self-2 g c =
-    let counted : c.self.inside.count ≡ length (filled c.take_value.new.slots.items) + 1 = one_less g c in
-    let same : length (filled c.shorten.new.slots.items) ≡ length (filled c.take_value.new.slots.items) = ap (λ (es : List (ℕ × g.row.V.Denot)). length es) c.shorten.ensures.same in
+    let counted : c.self.inside.count ≡ length (pairs_of_slots c.take_value.new.slots.items) + 1 = one_less g c in
+    let same : length (pairs_of_slots c.shorten.new.slots.items) ≡ length (pairs_of_slots c.take_value.new.slots.items) = ap (λ (es : List (ℕ × g.row.V.Denot)). length es) c.shorten.ensures.same in
     record {
       rising = c.shorten.ensures.rising (left g c).rising;
       counted = omega arith;
@@ -95,7 +95,7 @@ returns-clause-removed g c = c.shorten.ensures.same ∙ (left g c).gone ∙ ap (
 pub returns-clause-gone : goal.returns-clause-gone
 returns-clause-gone g c =
     ap (λ (es : List (ℕ × g.row.V.Denot)). value_at es c.args.number) (c.shorten.ensures.same ∙ (left g c).gone)
-    ∙ gone_here c.args.number (filled c.self.inside.slots.items) (keys_rise c.self.inside.slots.items c.self.invariant.rising)
+    ∙ gone_here c.args.number (pairs_of_slots c.self.inside.slots.items) (keys_rise c.self.inside.slots.items c.self.invariant.rising)
 
 pub returns-clause-rising : goal.returns-clause-rising
 returns-clause-rising g c = keys_rise c.shorten.new.slots.items (c.shorten.ensures.rising (left g c).rising)

@@ -7,5 +7,5 @@ load-requires g c = (
   search rules,
   search rules,
   λ s kept long at small.
-      (c.self.inside.seat.me.0 ++ g.K.Said.said, keeps, tt, tt, refl),
+      (c.self.inside.seat.me.0 ++ g.K.RecordsSteps.said, keeps, tt, tt, refl),
 )

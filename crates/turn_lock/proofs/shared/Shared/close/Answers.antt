@@ -1,7 +1,7 @@
 use Rattle.std.proofs.Common.{rules, ◌≡◌, ◌++◌, Some, ap, sym, ◌∙◌, subst}
 use mathlib.Core.Option.{some-injective}
 use Rattle.call_history.specs.Prefix.{IsPrefix}
-use Rattle.call_history.specs.Entries.{IsComplete, by, entries_by, merged}
+use Rattle.call_history.specs.Entries.{IsComplete, by, entries_by, history_in_order}
 use Rattle.call_history.proofs.Ordering.{merged_by_callers, IsComplete_by_callers}
 use Rattle.turn_lock.specs.Standing.{standing}
 use Rattle.turn_lock.specs.Passes.{merged_entries}
@@ -45,8 +45,8 @@ returns-clause-seen g c =
     (sym (merged_by_callers left.history (c.pass.inside.seat.me.0.past
     ++ c.pass.inside.seat.me.0.mine) left.entries)) left.begins)
 
-pub returns-clause-leads : goal.returns-clause-leads
-returns-clause-leads g c =
+pub returns-clause-reaches : goal.returns-clause-reaches
+returns-clause-reaches g c =
     let left = closes _ _ _ c.pass.inside.seat.id c.pass.inside.seat.me.0 _ _ (search rules) (search rules)
     (search rules) (search rules)
     (search rules) c.pass.invariant.past_own c.close_with-closed.ensures.values.2 in
@@ -55,7 +55,7 @@ returns-clause-leads g c =
     let entries = c.pass.inside.seat.me.0.past ++ c.pass.inside.seat.me.0.mine in
     let held : c.unwrap-held.result ≡ standing left.value left.history =
     Some-injective _ _ (sym c.unwrap-held.ensures ∙ is) in
-    let whole : merged entries ≡ merged_entries c.args.pass = ap (λ p. merged_entries p) c.pass.view_is in
-    subst (λ h. g.M.Machine.leads h c.into_value.result)
+    let whole : history_in_order entries ≡ merged_entries c.args.pass = ap (λ p. merged_entries p) c.pass.view_is in
+    subst (λ h. g.M.Machine.reaches h c.into_value.result)
     (ap (λ h. h.history) held ∙ (sym (merged_by_callers left.history entries left.entries) ∙ whole))
-    c.into_value.ensures.leads
+    c.into_value.ensures.reaches

@@ -1,5 +1,0 @@
-use Rattle.fsc_session.proofs.MeaningLemmas.{told_determines}
-use Rattle.fsc_session.proofs.laws.what_is_told_determines_the_history.Goals as goal
-
-pub returns : goal.returns
-returns c = told_determines

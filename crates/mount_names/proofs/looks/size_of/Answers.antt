@@ -1,5 +1,0 @@
-use Rattle.std.proofs.Common.{rules}
-use Rattle.mount_names.proofs.looks.size_of.Goals as goal
-
-pub returns-in-Link : goal.returns-in-Link
-returns-in-Link g c = search rules

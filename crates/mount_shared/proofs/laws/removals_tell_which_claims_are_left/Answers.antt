@@ -1,8 +1,0 @@
-use Rattle.mount_shared.proofs.RemovalLemmas.{clearing_tells, removal_tells}
-use Rattle.mount_shared.proofs.laws.removals_tell_which_claims_are_left.Goals as goal
-
-pub returns-clause-all : goal.returns-clause-all
-returns-clause-all c = clearing_tells
-
-pub returns-clause-own : goal.returns-clause-own
-returns-clause-own c = removal_tells

@@ -1,5 +1,0 @@
-use Rattle.plain_tree.proofs.SealLemmas as lemmas
-use Rattle.plain_tree.proofs.laws.texts_lead.Goals as goal
-
-pub returns : goal.returns
-returns c = lemmas.texts_lead

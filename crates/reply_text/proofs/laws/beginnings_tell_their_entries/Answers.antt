@@ -1,5 +1,0 @@
-use Rattle.reply_text.proofs.BeginningLemmas.{beginnings_tell}
-use Rattle.reply_text.proofs.laws.beginnings_tell_their_entries.Goals as goal
-
-pub returns : goal.returns
-returns c = beginnings_tell

@@ -1,5 +1,0 @@
-use Rattle.reply_text.proofs.LineLemmas.{lines_tell}
-use Rattle.reply_text.proofs.laws.lines_tell_their_entries.Goals as goal
-
-pub returns : goal.returns
-returns c = lines_tell

@@ -1,5 +1,0 @@
-use Rattle.reply_text.proofs.LineLemmas.{notes_tell}
-use Rattle.reply_text.proofs.laws.note_lines_tell_their_notes.Goals as goal
-
-pub returns : goal.returns
-returns c = notes_tell
