@@ -112,7 +112,8 @@ fn fill_slice(layout: Layout, h0: &[u8; 64], memory: &mut [Block], pass: usize, 
     requires slice { slice < 4 }
     requires whole { length memory.old ≡ block_count (shape layout) }
     ensures { (table : Table) → IsFilledTo (shape layout) memory.old table (place pass slice 0 0)
-        → IsFilledTo (shape layout) memory.new (with_lanes (shape layout) h0.now table pass slice layout.lanes)
+        → IsFilledTo (shape layout) memory.new
+        (with_lanes (shape layout) h0.now table pass slice layout.lanes)
         (place pass (slice + 1) 0 0) }
 {
     'lanes: for lane in 0..layout.lanes {

@@ -35,7 +35,8 @@ fn make_in(
     requires segment { length segment.old.items ≡ layout.width }
     ensures whole { length segment.new.items ≡ layout.width }
     ensures made { (h0 : List ℕ) (table : Table) (k : ℕ) → k < layout.width
-        → BeginsSegment (shape layout) (slices_of memory.now) segment.old.items table (place pass slice lane 0)
+        → BeginsSegment (shape layout) (slices_of memory.now) segment.old.items table
+        (place pass slice lane 0)
         → slice_index_or segment.new.items k zero_block
         ≡ with_places (shape layout) h0 table pass slice lane layout.width
         pass lane (slice * layout.width + k) }

@@ -73,7 +73,8 @@ fn fill(alloc: Global, mount: &mut Mount, raw: &[u8], nonces: &[[u8; 16]; 3]) ->
 fn lock(mount: &mut Mount, id: KeyId) -> Option<Reply>
     ensures claims { IfSome result (λ _. mount.new.state.ring.claims
         ≡ without_claim mount.old.state.ring.claims id 1000) }
-    ensures told { IfSome result (λ reply. ReportsClaims mount.new.state.ring.claims 1000 (KeyStatus id) reply) }
+    ensures told { IfSome result
+        (λ reply. ReportsClaims mount.new.state.ring.claims 1000 (KeyStatus id) reply) }
     ensures absent { IfSome result (λ reply. AbsentHoldsNothing mount.new.state (KeyStatus id) reply) }
 {
     let Reply::Removed { .. } = ask(mount, Op::RemoveKey { id })? else {

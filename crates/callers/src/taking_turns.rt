@@ -23,8 +23,8 @@ pub fn new_shared_machine<M: Machine>(
     Shared::start(alloc, machine, 1, 2)
 }
 
-/// Makes two calls, the second at a later place, and returns both replies. Returns `PassExhausted` exactly when
-/// the pass has fewer calls left: if it has one, the first call has used it up.
+/// Makes two calls, the second at a later place, and returns both replies. Returns `PassExhausted` exactly
+/// when the pass has fewer calls left: if it has one, the first call has used it up.
 pub fn ask_twice<M: Machine, W: Wait>(
     rt: &W,
     shared: &Shared<M>,

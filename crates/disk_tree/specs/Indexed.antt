@@ -1,4 +1,5 @@
--- How the entries of a directory are stored: in the order in which they were made, and by the hash of the name.
+-- How the entries of a directory are stored: in the order in which they were made, and by the hash of the
+-- name.
 use Rattle.std.specs.Prelude.{◌≡◌, ℕ, nat_eq, Bool, false, List, map, Option}
 use Rattle.std.specs.Str.{bytes_eq}
 use Rattle.std.specs.Ordering.{nat_cmp}

@@ -90,7 +90,8 @@ pub(crate) fn oldest_of(
     hash: u64,
 ) -> Option<(u64, u32)>
     requires hash { hash ≡ hash_of name.now }
-    requires named { doubled ≡ false → (other : ℕ) → indexed_entry index.now other ≡ oldest_of_hash order.now other }
+    requires named { doubled ≡ false → (other : ℕ)
+        → indexed_entry index.now other ≡ oldest_of_hash order.now other }
     requires apart { doubled ≡ false → IsDistinct nat_eq (keys_of (by_hash order.now)) }
     ensures { result ≡ oldest order.now name.now }
 {

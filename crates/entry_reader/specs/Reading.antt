@@ -30,7 +30,8 @@ IsEntryIfLine line read None = ¬ (Fits read.entry.call × (line ≡ entry_text 
 -- what was read is an entry with this line; if nothing was, the line is that of no entry
 abbrev pub IsEntryOfLine : List ℕ → Option LogEntry → Type 0
 IsEntryOfLine line (Some read) = IsLineOf line read
-IsEntryOfLine line None = (place : ℕ) (e : MountEntry) → place < 2 ^ 64 → IsEntry e → line ≢ entry_text place e
+IsEntryOfLine line None = (place : ℕ) (e : MountEntry) → place < 2 ^ 64 → IsEntry e
+    → line ≢ entry_text place e
 
 -- the line of any such entry is read, as the text of that entry
 abbrev pub ReadsBack : List ℕ → Option LogEntry → Type 0

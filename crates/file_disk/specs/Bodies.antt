@@ -46,7 +46,8 @@ disk_after_write disk file seal at bytes = changed disk file (on_body (body_afte
 
 -- block j stored again with its part of the bytes, if the file had `had` blocks before
 abbrev pub rewritten_block : Option Seal → ℕ → ℕ → List ℕ → ℕ → List ℕ → List ℕ
-rewritten_block seal had at bytes j block = rewritten (stored_block seal) (read_block seal) had at bytes j block
+rewritten_block seal had at bytes j block
+    = rewritten (stored_block seal) (read_block seal) had at bytes j block
 
 -- whether `count` bytes that are written from byte `at` on cover all of block j
 abbrev pub covers_block : ℕ → ℕ → ℕ → Bool

@@ -91,7 +91,8 @@ fn copy_part(
 /// Decrypts the text in place and cuts it to the content, which it returns. Allocates nothing. Wipes the
 /// key in its box, and its round keys in their buffer.
 pub fn finish_read(lent: PendingRead) -> Vec<u8>
-    ensures { result.items ≡ content_of (pending_seal lent.key) lent.block lent.text.items lent.skip lent.len }
+    ensures { result.items ≡ content_of
+        (pending_seal lent.key) lent.block lent.text.items lent.skip lent.len }
 {
     let PendingRead {
         mut key,

@@ -31,7 +31,8 @@ pub fn write_file(
 ) -> Result<(), DiskFault>
     requires file { IsFileAt disk.old file }
     requires fits { offset + length bytes.now ≤ MAX_FILE_BYTES }
-    ensures written { OnOk result (disk.new ≡ disk_after_write disk.old file (seal_of key.old) offset bytes.now) }
+    ensures written { OnOk result
+        (disk.new ≡ disk_after_write disk.old file (seal_of key.old) offset bytes.now) }
     ensures kept { OnErr result (disk.new ≡ disk.old) }
     ensures empty { length bytes.now ≡ 0 → IsOk result }
     ensures inside { end_block offset bytes.now ≤ length (file_blocks disk.old file) → IsOk result }
@@ -57,7 +58,8 @@ fn write_under(
 ) -> Result<(), DiskFault>
     requires file { IsFileAt disk.old file }
     requires fits { offset + length bytes.now ≤ MAX_FILE_BYTES }
-    ensures written { OnOk result (disk.new ≡ disk_after_write disk.old file (seal_of key.now) offset bytes.now) }
+    ensures written { OnOk result
+        (disk.new ≡ disk_after_write disk.old file (seal_of key.now) offset bytes.now) }
     ensures kept { OnErr result (disk.new ≡ disk.old) }
     ensures empty { length bytes.now ≡ 0 → IsOk result }
     ensures inside { end_block offset bytes.now ≤ length (file_blocks disk.old file) → IsOk result }

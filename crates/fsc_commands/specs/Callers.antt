@@ -21,7 +21,8 @@ pub record IsSameCaller {P : Type 0} (who : P → ℕ) (old new : Caller P) : Ty
   pub entries : new.entries.ghost_name ≡ old.entries.ghost_name
 
 -- the call was answered, and the list doesn't have the shown entry, with its place, yet
-pub record AnsweredCall {P : Type 0} (after_calls : P → PlacedCalls → P → Type 0) (left : P → ℕ) (old new : Caller P)
+pub record AnsweredCall {P : Type 0} (after_calls : P → PlacedCalls → P → Type 0) (left : P → ℕ)
+    (old new : Caller P)
     (caller : ℕ) (call : Call) (placed : ℕ × LoggedEntry) : Type 0 where
   pub reached_by_call : after_calls old.port.now (entry_of_logged caller call placed ∷ []) new.port.now
   pub shown : placed ≡ (placed.0, logged_entry (entry_of_logged caller call placed).1)

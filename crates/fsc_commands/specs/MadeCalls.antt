@@ -13,7 +13,8 @@ use Rattle.fsc_commands.specs.CommandSteps.{CommandSteps, when_ok}
 
 -- the port is as it is after at most `most` calls, which are these steps and leave this value; the list has
 -- the shown entries of these calls after its others
-pub record MadeCalls {P A : Type 0} (after_calls : PlacedCalls → P → Type 0) (port : P) (left before_left most : ℕ)
+pub record MadeCalls {P A : Type 0} (after_calls : PlacedCalls → P → Type 0) (port : P)
+    (left before_left most : ℕ)
     (steps : Steps A) (value : A) (old new : PlacedLogged) : Type 0 where
   pub made : PlacedCalls
   pub reached_by_call : after_calls made port
@@ -23,7 +24,8 @@ pub record MadeCalls {P A : Type 0} (after_calls : PlacedCalls → P → Type 0)
   pub counted : left + length made ≡ before_left
 
 -- the same for a part of a session's work: whatever comes after it, it goes on with `got`
-pub record MadePart {P A : Type 0} (after_calls : PlacedCalls → P → Type 0) (port : P) (left before_left most : ℕ)
+pub record MadePart {P A : Type 0} (after_calls : PlacedCalls → P → Type 0) (port : P)
+    (left before_left most : ℕ)
     (steps : (A → CommandSteps) → CommandSteps) (got : Result A Outcome) (old new : PlacedLogged)
     : Type 0 where
   pub made : PlacedCalls
@@ -39,7 +41,8 @@ entry_of_logged caller call placed = (placed.0, entry caller call placed.1.reply
 
 -- the port is as it is after at most `most` calls, with which these steps begin: each is the one that they
 -- ask for after the calls before it and their replies
-pub record Begun {P A : Type 0} (after_calls : PlacedCalls → P → Type 0) (port : P) (most : ℕ) (steps : Steps A)
+pub record Begun {P A : Type 0} (after_calls : PlacedCalls → P → Type 0) (port : P) (most : ℕ)
+    (steps : Steps A)
     : Type 0 where
   pub made : PlacedCalls
   pub rest : Steps A

@@ -29,7 +29,8 @@ task_of seed caller uid number names (verb.RemoveKey key) = Single (op.RemoveKey
 task_of seed caller uid number names (verb.RemoveKeyAll key) = Single (op.RemoveKeyAll (id_of_ref key))
 task_of seed caller uid number names (verb.KeyStatus key) = Single (op.KeyStatus (id_of_ref key))
 task_of seed caller uid number names (verb.SetPolicy path key settings) =
-    Single (op.SetPolicy (resolved_path names path) (policy_bytes (policy_with_settings (id_of_ref key) settings))
+    Single (op.SetPolicy (resolved_path names path)
+    (policy_bytes (policy_with_settings (id_of_ref key) settings))
     (derived_nonce seed caller number))
 task_of seed caller uid number names (verb.SetPolicyBytes path policy) =
     Single (op.SetPolicy (resolved_path names path) policy (derived_nonce seed caller number))

@@ -12,7 +12,8 @@ use Rattle.fsc_outside.specs.declared.input.InputFault.TheVariants.{ReadFault, T
 use Rattle.fsc_outside.specs.WholeTexts.{ReadToEnd, ReadWhole}
 
 -- a source gave exactly one byte beyond the limit, and was asked for no more
-pub record ReadOneByteMore (limits : InputLimits) (AfterReads : List ReadCall → Type 0) (old new : SourceState)
+pub record ReadOneByteMore (limits : InputLimits) (AfterReads : List ReadCall → Type 0)
+    (old new : SourceState)
     (bytes : List ℕ) : Type 0 where
   pub given : Consumes old.left new.left bytes
   pub size : length bytes ≡ max_read_bytes limits
@@ -20,7 +21,8 @@ pub record ReadOneByteMore (limits : InputLimits) (AfterReads : List ReadCall �
 
 -- a source gave a whole text within the limit of bytes, but with too many lines; the last call reported
 -- its end
-pub record ReadTooManyLines (limits : InputLimits) (AfterReads : List ReadCall → Type 0) (old new : SourceState)
+pub record ReadTooManyLines (limits : InputLimits) (AfterReads : List ReadCall → Type 0)
+    (old new : SourceState)
     (bytes : List ℕ) : Type 0 where
   pub gave : ReadToEnd old new bytes
   pub size : length bytes ≤ limits.bytes
@@ -28,7 +30,8 @@ pub record ReadTooManyLines (limits : InputLimits) (AfterReads : List ReadCall �
   pub calls : AfterReading limits AfterReads bytes (Gave [] ∷ [])
 
 -- a source gave a text that is too long; how much of it was read
-abbrev pub ReadIsTooLong : InputLimits → (List ReadCall → Type 0) → SourceState → SourceState → List ℕ → Type 0
+abbrev pub ReadIsTooLong : InputLimits → (List ReadCall → Type 0) → SourceState → SourceState → List ℕ
+    → Type 0
 ReadIsTooLong limits AfterReads old new bytes =
     ReadOneByteMore limits AfterReads old new bytes ⊎ ReadTooManyLines limits AfterReads old new bytes
 

@@ -7,7 +7,8 @@ use Rattle.fsc_outside.specs.Reads.ReadCall.{Gave, Faulted}
 use Rattle.fsc_outside.specs.Sources.{Feed, AreFeeds, calls_after, state_of_feed}
 use Rattle.fsc_outside.specs.States.{SourceState}
 
-pub bytes_of_more : (calls more : List ReadCall) → bytes_of_calls (calls ++ more) ≡ bytes_of_calls calls ++ bytes_of_calls more
+pub bytes_of_more : (calls more : List ReadCall)
+    → bytes_of_calls (calls ++ more) ≡ bytes_of_calls calls ++ bytes_of_calls more
 bytes_of_more [] more = refl
 bytes_of_more (Gave bytes ∷ calls) more =
     ap (λ rest. bytes ++ rest) (bytes_of_more calls more)
@@ -52,7 +53,8 @@ counted_on (call ∷ calls) more count = counted_on calls more (one_more count)
 pub AreFeeds-none : (feed : Feed) → AreFeeds feed [] feed
 AreFeeds-none feed = record { reads = AreReads-none (state_of_feed feed); counted = refl }
 
-pub AreFeeds-on : (a b c : Feed) (e f : List ReadCall) → AreFeeds a e b → AreFeeds b f c → AreFeeds a (e ++ f) c
+pub AreFeeds-on : (a b c : Feed) (e f : List ReadCall) → AreFeeds a e b → AreFeeds b f c
+    → AreFeeds a (e ++ f) c
 AreFeeds-on a b c e f first second = record {
   reads = AreReads-on (state_of_feed a) (state_of_feed b) (state_of_feed c) e f first.reads second.reads;
   counted = second.counted ∙ ap (calls_after f) first.counted ∙ sym (counted_on e f a.calls);

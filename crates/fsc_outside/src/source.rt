@@ -36,7 +36,8 @@ pub trait Source {
 
     /// Two lists of calls, one after the other, relate the first source to the last.
     ghost by_more: { (first second third : Self) (calls more : List ReadCall)
-        → after_calls first calls second → after_calls second more third → after_calls first (calls ++ more) third };
+        → after_calls first calls second → after_calls second more third
+        → after_calls first (calls ++ more) third };
 }
 
 /// A source in memory that gives pieces, and fails at the calls that are listed. In clauses it is a

@@ -15,7 +15,8 @@ use Rattle.fsc_commands.specs.Commands.{command_steps}
 -- the note of a command that is a session's work; a single call has none
 abbrev pub notes_of_command : ℕ → Command → Option Outcome → List Note
 notes_of_command caller command None = []
-notes_of_command caller command (Some outcome) = record { caller = caller; line = command.line; outcome = outcome } ∷ []
+notes_of_command caller command (Some outcome)
+    = record { caller = caller; line = command.line; outcome = outcome } ∷ []
 
 -- the steps of commands, of which the first has this number, for a caller whose last listing has these
 -- names and that has these notes; they end with all notes

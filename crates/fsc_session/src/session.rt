@@ -33,7 +33,8 @@ pub fn run_caller<P: MountPort, G: Gate, S: Stretch>(
     requires asked { AsksRightly section.now }
     ensures ran { IfOk result (λ ran. SectionRan (P.after_calls port.old) port.new (P.calls_left port.new)
         (P.calls_left port.old) seed.now (P.who port.old) section.now ran.entries ran.notes) }
-    ensures failed { OnErr result (SectionBeforeStop (P.after_calls port.old) port.new seed.now (P.who port.old)
+    ensures failed { OnErr result
+        (SectionBeforeStop (P.after_calls port.old) port.new seed.now (P.who port.old)
         section.now) }
 {
     let caller = port.caller();

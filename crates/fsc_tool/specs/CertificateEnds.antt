@@ -29,7 +29,8 @@ pub record IsAtFault (line : ℕ) (input : List ℕ) : Type 0 where
   pub bad : read_certificate input ≡ Err line
 
 -- the source gave an input for which `IsSo` holds
-pub record EndsRead (IsSo : List ℕ → Type 0) (AfterReads : List ReadCall → Type 0) (a b : Outside) : Type 0 where
+pub record EndsRead (IsSo : List ℕ → Type 0) (AfterReads : List ReadCall → Type 0) (a b : Outside)
+    : Type 0 where
   pub input : List ℕ
   pub read : ReadWhole certificate_limits AfterReads a.source b.source input
   pub is_so : IsSo input

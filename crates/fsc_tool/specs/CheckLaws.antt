@@ -31,7 +31,8 @@ pub record IsPrinted (input seed log : List ℕ) : Type 0 where
 abbrev pub PrintedLogsAreNotRefused : Type 0
 PrintedLogsAreNotRefused =
     (strict : Bool) (input seed log : List ℕ) (place : ℕ) (run : IsPrinted input seed log)
-    → HasMemory strict run.printed.history → ¬ StatusOfInput strict seed (certificate_text input log) (Refused place)
+    → HasMemory strict run.printed.history
+    → ¬ StatusOfInput strict seed (certificate_text input log) (Refused place)
 
 -- and if the script is within its limits, the status of the whole input is that the log is certified, or
 -- that there was no memory

@@ -12,7 +12,8 @@ use Rattle.fsc_tool.specs.CertificateEnds.{IsChecked, IsAtFault}
 -- out of memory
 abbrev pub StatusOfInput : Bool → List ℕ → List ℕ → Status → Type 0
 StatusOfInput strict seed input Done = IsChecked (IsCertified strict seed) input
-StatusOfInput strict seed input (Refused place) = IsChecked (λ script log. IsRefusedAt strict seed script log place) input
+StatusOfInput strict seed input (Refused place)
+    = IsChecked (λ script log. IsRefusedAt strict seed script log place) input
 StatusOfInput strict seed input (BadLine line) = IsAtFault line input
 StatusOfInput strict seed input TooLong = IsLong (script_part input)
 StatusOfInput strict seed input NoMemory = ⊤

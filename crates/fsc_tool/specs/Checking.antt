@@ -28,8 +28,8 @@ EndsChecking strict seed AfterReads a b TooLong = EndsCertificateTooLong AfterRe
 EndsChecking strict seed AfterReads a b NoMemory = EndsCertificateNoMemory AfterReads a b
 EndsChecking strict seed AfterReads a b other = ⊥
 
--- a run that checks a log against runs with the seed, strictly or not; `AfterReads` holds of the source's calls
--- in between
+-- a run that checks a log against runs with the seed, strictly or not; `AfterReads` holds of the source's
+-- calls in between
 pub record IsChecking (strict : Bool) (seed : List ℕ) (AfterReads : List ReadCall → Type 0) (a b : Outside)
     (status : Status) : Type 0 where
   -- what the status means, with its cause and what was read

@@ -42,7 +42,8 @@ pub record IsDump (seed : List ℕ) (script : List Section) (raw : Option (List 
 -- it
 abbrev pub DumpsAreListed : {S : Type 0} → (S → List ReadCall → S → Type 0) → Type 0
 DumpsAreListed {S} after_calls =
-    (old new : S) (seed : List ℕ) (script : List Section) (raw : Option (List ℕ)) (a b : Outside) (text : List ℕ)
+    (old new : S) (seed : List ℕ) (script : List Section) (raw : Option (List ℕ)) (a b : Outside)
+    (text : List ℕ)
     (listing : HasListing raw (λ calls. after_calls old calls new) a.source b.source text)
     → IsDump seed script raw listing.input → text ≡ listing_after seed script raw
 

@@ -21,7 +21,8 @@ abbrev pub IsScript : List ℕ → Type 0
 IsScript text = (script : List Section) × (parsed_script text ≡ Ok script)
 
 -- the arguments give no seed, the source gave a script, and the seed source failed; nothing was written
-pub record EndsSeedFault (AfterReads : List ReadCall → Type 0) (seeding : Seeding) (a b : Outside) : Type 0 where
+pub record EndsSeedFault (AfterReads : List ReadCall → Type 0) (seeding : Seeding) (a b : Outside)
+    : Type 0 where
   pub asked : seeding ≡ Asked
   pub input : List ℕ
   pub read : ReadWhole input_limits AfterReads a.source b.source input
@@ -30,7 +31,8 @@ pub record EndsSeedFault (AfterReads : List ReadCall → Type 0) (seeding : Seed
   pub unwritten : b.sink ≡ a.sink
 
 -- there was no memory, before the seed was taken or after; nothing failed, and nothing was written
-pub record EndsNoMemory (AfterReads : List ReadCall → Type 0) (seeding : Seeding) (a b : Outside) : Type 0 where
+pub record EndsNoMemory (AfterReads : List ReadCall → Type 0) (seeding : Seeding) (a b : Outside)
+    : Type 0 where
   pub read : ReadSome input_limits AfterReads a b
   pub quiet : b.source.faults ≡ a.source.faults
   pub seeds : (b.seeds ≡ a.seeds) ⊎ ((seed : List ℕ) × IsSeedOf seeding a.seeds b.seeds seed)

@@ -17,9 +17,10 @@ use Rattle.fsc_tool.specs.Outside.{Outside}
 abbrev pub image_limits : InputLimits
 image_limits = record { bytes = MAX_IMAGE_BYTES; lines = MAX_IMAGE_BYTES + 1 }
 
--- the source gave the text of an image within the limit, by calls of which `AfterReads` holds; the text is the
--- listing of this image with the raw key, or with none
-pub record HasListing (raw : Option (List ℕ)) (AfterReads : List ReadCall → Type 0) (source source' : SourceState)
+-- the source gave the text of an image within the limit, by calls of which `AfterReads` holds; the text is
+-- the listing of this image with the raw key, or with none
+pub record HasListing (raw : Option (List ℕ)) (AfterReads : List ReadCall → Type 0)
+    (source source' : SourceState)
     (text : List ℕ) : Type 0 where
   pub input : List ℕ
   pub read : ReadWhole image_limits AfterReads source source' input

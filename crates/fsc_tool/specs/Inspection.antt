@@ -24,14 +24,16 @@ wiped_key raw = option_map (λ key. replicate (length key) 0) raw
 -- what the status means; no other status is possible
 abbrev pub EndsInspection : Option (List ℕ) → (List ReadCall → Type 0) → Outside → Outside → Status → Type 0
 EndsInspection raw AfterReads a b Done = EndsDone (HasListing raw AfterReads a.source b.source) a.sink b.sink
-EndsInspection raw AfterReads a b WriteFault = EndsWriteFault (HasListing raw AfterReads a.source b.source) a.sink b.sink
+EndsInspection raw AfterReads a b WriteFault
+    = EndsWriteFault (HasListing raw AfterReads a.source b.source) a.sink b.sink
 EndsInspection raw AfterReads a b (BadLine line) = EndsBadLine image_limits image_read AfterReads line a b
 EndsInspection raw AfterReads a b ReadFault = EndsReadFault image_limits AfterReads a b
 EndsInspection raw AfterReads a b TooLong = EndsImageTooLong AfterReads a b
 EndsInspection raw AfterReads a b NoMemory = EndsImageNoMemory AfterReads a b
 EndsInspection raw AfterReads a b other = ⊥
 
--- a run that lists an image with the raw key, or with none; `AfterReads` holds of the source's calls in between
+-- a run that lists an image with the raw key, or with none; `AfterReads` holds of the source's calls in
+-- between
 pub record IsInspection (raw : Option (List ℕ)) (AfterReads : List ReadCall → Type 0) (a b : Outside)
     (status : Status)
     : Type 0 where
@@ -44,5 +46,6 @@ pub record IsInspection (raw : Option (List ℕ)) (AfterReads : List ReadCall �
       → IsOrNoMemory TooLong status
   pub bad_line : (input : List ℕ) (line : ℕ) → GivenInput a b input → length input ≤ MAX_IMAGE_BYTES
       → image_read input ≡ Err line → IsOrNoMemory (BadLine line) status
-  pub complete : (image : Image) → GivenInput a b (image_text image) → length (image_text image) ≤ MAX_IMAGE_BYTES
+  pub complete : (image : Image) → GivenInput a b (image_text image)
+      → length (image_text image) ≤ MAX_IMAGE_BYTES
       → IsImage image → ¬ Rose a.sink.faults b.sink.faults → IsOrNoMemory Done status

@@ -14,12 +14,14 @@ pub record EndsEarly (a b : Outside) : Type 0 where
   pub unasked : b.seeds ≡ a.seeds
 
 -- a call of the source failed, and it was the last
-pub record EndsReadFault (limits : InputLimits) (AfterReads : List ReadCall → Type 0) (a b : Outside) : Type 0 where
+pub record EndsReadFault (limits : InputLimits) (AfterReads : List ReadCall → Type 0) (a b : Outside)
+    : Type 0 where
   pub early : EndsEarly a b
   pub part : ReadPart limits AfterReads a.source b.source
 
 -- the source gave more than the limits allow
-pub record EndsTooLong (limits : InputLimits) (AfterReads : List ReadCall → Type 0) (a b : Outside) : Type 0 where
+pub record EndsTooLong (limits : InputLimits) (AfterReads : List ReadCall → Type 0) (a b : Outside)
+    : Type 0 where
   pub early : EndsEarly a b
   pub much : ReadTooMuch limits AfterReads a.source b.source
 

@@ -31,8 +31,8 @@ pub record IsReplayable (a b : Outside) (input : List ℕ) : Type 0 where
 abbrev pub IsOrNoMemory : Status → Status → Type 0
 IsOrNoMemory wanted status = (status ≡ wanted) ⊎ (status ≡ NoMemory)
 
--- a replay with a seed from `seeding`; `IsText` holds of a text of a run of a script with a seed, `AfterReads` of
--- the source's calls in between
+-- a replay with a seed from `seeding`; `IsText` holds of a text of a run of a script with a seed,
+-- `AfterReads` of the source's calls in between
 pub record IsReplay (IsText : List ℕ → List Section → List ℕ → Type 0) (AfterReads : List ReadCall → Type 0)
     (seeding : Seeding) (a b : Outside) (status : Status) : Type 0 where
   -- what the status means, with its cause and what was read; the text is one of such a run

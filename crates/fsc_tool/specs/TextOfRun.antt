@@ -9,8 +9,8 @@ use Rattle.fsc_tool.specs.Limits.{input_limits}
 use Rattle.fsc_tool.specs.Outside.{Outside}
 use Rattle.fsc_tool.specs.Seed.{IsSeedOf}
 
--- the source gave an input within the limits, by calls of which `AfterReads` holds, that is this script; the run
--- had this seed; and the text is one of a run of the script with the seed
+-- the source gave an input within the limits, by calls of which `AfterReads` holds, that is this script; the
+-- run had this seed; and the text is one of a run of the script with the seed
 pub record HasText (IsText : List ℕ → List Section → List ℕ → Type 0)
     (AfterReads : List ReadCall → Type 0) (seeding : Seeding) (a b : Outside) (text : List ℕ) : Type 0 where
   pub input : List ℕ

@@ -33,10 +33,12 @@ IsRunIn lawful other AfterReads (Some (Generate number)) a b status =
     IsGenRun (IsScriptText number) a b status × AfterReads []
 IsRunIn lawful other AfterReads (Some (Summarise number)) a b status =
     IsGenRun (SummaryOfRun lawful number) a b status × AfterReads []
-IsRunIn lawful other AfterReads (Some (Dump seed)) a b status = IsReplay IsImageOfRun AfterReads (Given seed) a b status
+IsRunIn lawful other AfterReads (Some (Dump seed)) a b status
+    = IsReplay IsImageOfRun AfterReads (Given seed) a b status
 IsRunIn lawful other AfterReads (Some (Inspect raw)) a b status = IsInspection raw AfterReads a b status
 IsRunIn lawful other AfterReads (Some (Check seed)) a b status = IsChecking false seed AfterReads a b status
-IsRunIn lawful other AfterReads (Some (CheckStrictly seed)) a b status = IsChecking true seed AfterReads a b status
+IsRunIn lawful other AfterReads (Some (CheckStrictly seed)) a b status
+    = IsChecking true seed AfterReads a b status
 IsRunIn lawful other AfterReads (Some (ReplayLinked InTurn seed)) a b status =
     IsReplay (IsLinkedLog lawful other) AfterReads (Given seed) a b status
 IsRunIn lawful other AfterReads (Some (ReplayLinked InThreads seed)) a b status =

@@ -71,7 +71,8 @@ fn summary_of<G: Gate, M: MountMachine>(
 
 // Returns the summary of a run with these entries and notes. Fails if a call of the run was out of memory.
 fn summary_of_output(alloc: Global, told: RunOutput) -> Result<Bytes, AllocError>
-    ensures no_out_of_memory { OnOk result (list_any (λ placed. is_out_of_memory placed.1.reply) told.entries.items
+    ensures no_out_of_memory { OnOk result
+        (list_any (λ placed. is_out_of_memory placed.1.reply) told.entries.items
         ≡ false) }
     ensures text { IfOk result (λ text. text ≡ summary_text (entries_of told.entries.items)
         (log_of_history (entries_of told.entries.items) ++ notes_text told.notes.items)) }

@@ -15,6 +15,7 @@ node_in node = node_at node.line (pieces_of node.rest.now)
 abbrev pub IsRestOf : List ℕ → List ℕ → Type 0
 IsRestOf text rest = rest ≡ drop (length text - length rest) text
 
--- the text after the own line of the node at this index: the lines of its entries or blocks, and of the nodes after it
+-- the text after the own line of the node at this index: the lines of its entries or blocks, and of the nodes
+-- after it
 abbrev pub text_after : Image → ℕ → List ℕ
 text_after image index = ended (drop 1 (flat_map node_lines (drop index image)))

@@ -36,7 +36,8 @@ place_of_line (Some node) at = record { number = node.number; at = at } ∷ []
 -- the places of the nodes among these lines, of which the first begins at this index
 unfoldable pub places_from : ℕ → List (List ℕ) → List NodePlace
 places_from at [] = []
-places_from at (line ∷ lines) = place_of_line (node_of_line line) at ++ places_from (at + length line + 1) lines
+places_from at (line ∷ lines)
+    = place_of_line (node_of_line line) at ++ places_from (at + length line + 1) lines
 
 -- the places of the nodes of a text
 abbrev pub places_in : List ℕ → List NodePlace

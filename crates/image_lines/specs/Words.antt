@@ -49,7 +49,8 @@ file_of_word word = option_map File (number_of_word word >>= passing (λ size. n
 
 -- a link to this target
 abbrev pub link_of_word : Bool → List ℕ → Option NodeKind
-link_of_word under_policy word = option_map Link (stored_name_of_word word >>= passing (is_target under_policy))
+link_of_word under_policy word
+    = option_map Link (stored_name_of_word word >>= passing (is_target under_policy))
 
 -- the kind of node that a word names, with the word after the context, if there is one
 abbrev pub kind_of_word : List ℕ → Bool → Option (List ℕ) → Option NodeKind

@@ -18,7 +18,8 @@ has_id cache id node = option_map_or (λ key. same_id key.id id) (key_at cache n
 -- the keys that are left after those derived from the master key are removed from the nodes without pins,
 -- and after all keys are removed from them
 abbrev pub without_derived_keys : Cache → KeyId → KeyMap
-without_derived_keys cache id = map.retain_keys cache.keys (λ node. not (is_unpinned cache node && has_id cache id node))
+without_derived_keys cache id
+    = map.retain_keys cache.keys (λ node. not (is_unpinned cache node && has_id cache id node))
 
 abbrev pub without_unpinned_keys : Cache → KeyMap
 without_unpinned_keys cache = map.retain_keys cache.keys (λ node. not (is_unpinned cache node))

@@ -117,7 +117,8 @@ pub(crate) fn give_in(
     node: u32,
     mut key: Option<NodeKey>,
 ) -> Result<(), AllocError>
-    ensures given { OnOk result (keys_of keys.new.entries ≡ with_pinned_key (keys_of keys.old.entries) node key) }
+    ensures given { OnOk result
+        (keys_of keys.new.entries ≡ with_pinned_key (keys_of keys.old.entries) node key) }
     ensures as_before { OnErr result (keys_of keys.new.entries ≡ keys_of keys.old.entries) }
     ensures again { (is_some (map.get (keys_of keys.old.entries) node) || is_none key) ≡ true → IsOk result }
 {
@@ -141,7 +142,8 @@ pub(crate) fn pin_in(
     key: Option<NodeKey>,
 ) -> Result<(), AllocError>
     requires { pins_at (pins_in pins.old.entries) node + 1 < 2 ^ 32 }
-    ensures given { OnOk result (keys_of keys.new.entries ≡ with_pinned_key (keys_of keys.old.entries) node key) }
+    ensures given { OnOk result
+        (keys_of keys.new.entries ≡ with_pinned_key (keys_of keys.old.entries) node key) }
     ensures pinned { OnOk result (pins_in pins.new.entries
         ≡ with_pins (pins_in pins.old.entries) node (pins_at (pins_in pins.old.entries) node + 1)) }
     ensures keys { OnErr result (keys_of keys.new.entries ≡ keys_of keys.old.entries) }

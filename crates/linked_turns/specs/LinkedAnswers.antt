@@ -12,7 +12,8 @@ use Rattle.linked_turns.specs.TwoMounts.{TwoMounts, LinkedAnswer, on_mount_0, on
 -- loading a protector's record: on mount 0 too, if it is a link on mount 1
 abbrev pub load_answer : List ℕ → TwoMounts → ℕ → Call → LinkedAnswer
 load_answer label m who call =
-    if is_link label (answer_of m.odd who call).reply then after_call_on_1 m who call (λ n. on_mount_0 n who call)
+    if is_link label (answer_of m.odd who call).reply then after_call_on_1 m who call
+    (λ n. on_mount_0 n who call)
     else on_mount_1 m who call
 
 -- storing it: it is loaded on mount 1 first, and stored on mount 0 if it is a link there

@@ -25,8 +25,10 @@ pub(crate) fn output_of_runners(
     alloc: Global,
     runners: Vec<LinkedRunner>,
 ) -> Result<LinkedOutput, AllocError>
-    ensures even { IfOk result (λ told. told.even.items ≡ logged_calls_of even_logged_calls runners.entry.items) }
-    ensures odd { IfOk result (λ told. told.odd.items ≡ logged_calls_of odd_logged_calls runners.entry.items) }
+    ensures even { IfOk result
+        (λ told. told.even.items ≡ logged_calls_of even_logged_calls runners.entry.items) }
+    ensures odd { IfOk result
+        (λ told. told.odd.items ≡ logged_calls_of odd_logged_calls runners.entry.items) }
     ensures notes { IfOk result (λ told. told.notes.items ≡ noted_by (runners_of runners.entry.items)) }
 {
     let mut told = LinkedOutput {

@@ -8,8 +8,8 @@ use crate::laws::mount_images_are_images;
 /// 528 for each of 65,535 entries and 8,199 for each of 16,384 blocks.
 pub const MAX_MOUNT_IMAGE_BYTES: usize = 209_108_476;
 
-/// The image of a mount whose nonces have 16 bytes has at most `MAX_MOUNT_IMAGE_BYTES` bytes, so fewer than are read
-/// as an image. The function does nothing: its contract is the law.
+/// The image of a mount whose nonces have 16 bytes has at most `MAX_MOUNT_IMAGE_BYTES` bytes, so fewer than
+/// are read as an image. The function does nothing: its contract is the law.
 pub fn mount_images_are_short()
     ensures { MountImagesAreShort }
 {

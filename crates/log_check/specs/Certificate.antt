@@ -13,7 +13,8 @@ HasMemory strict history = IsTrue strict → NeverOutOfMemory history
 -- What a log of the script with the seed may contain: each caller's entries are a beginning of a run of its
 -- section, the one-thread mount may reply so, and what a line shows is in the range of its type. No two
 -- different raw keys that were added share an identifier.
-pub record IsPossible (strict : Bool) (seed : List ℕ) (script : List Section) (history : History) : Type 0 where
+pub record IsPossible (strict : Bool) (seed : List ℕ) (script : List Section) (history : History)
+    : Type 0 where
   pub follows : Follows seed script history
   pub legal : IsLegal history
   pub in_range : All EntryIsInRange history

@@ -21,9 +21,10 @@ use Rattle.log_check.specs.declared.expected.Due.{Due}
 use Rattle.log_check.specs.declared.expected.Due.TheVariants as due
 use Rattle.log_check.specs.Certificate.{BeginsWith}
 
--- the entry's call is one of the command on this line of the script: the caller's entries are a run of the commands
--- before that one, and then entries after which its steps ask for the call
-pub record ComesOf (seed : List ℕ) (script : List Section) (history : History) (entry : MountEntry) (line : Option ℕ)
+-- the entry's call is one of the command on this line of the script: the caller's entries are a run of the
+-- commands before that one, and then entries after which its steps ask for the call
+pub record ComesOf (seed : List ℕ) (script : List Section) (history : History) (entry : MountEntry)
+    (line : Option ℕ)
     : Type 0 where
   pub section : Section
   pub own : slice_get script entry.who ≡ Some section
@@ -36,11 +37,13 @@ pub record ComesOf (seed : List ℕ) (script : List Section) (history : History)
   pub all : entries_by entry.who history ≡ before ++ made
   pub notes : List Note
   pub run : IsRunSoFar seed entry.who section number before notes
-  pub asks : next_of (command_steps seed entry.who section.uid number (names_in before) command.verb) (entries_of made)
+  pub asks : next_of (command_steps seed entry.who section.uid number (names_in before) command.verb)
+      (entries_of made)
       ≡ Some (entry.who, entry.call)
 
--- the line of a caller's next call, with the line of the script that the call's command is on. The reply is one that
--- the mount may give after a history of that many entries, with whose log the text begins, and isn't out of memory
+-- the line of a caller's next call, with the line of the script that the call's command is on. The reply is
+-- one that the mount may give after a history of that many entries, with whose log the text begins, and isn't
+-- out of memory
 pub record IsExpectedLine (seed : List ℕ) (script : List Section) (text : List ℕ) (place : ℕ) (line : List ℕ)
     (command : Option ℕ) : Type 0 where
   pub history : History
@@ -55,7 +58,8 @@ pub record IsExpectedLine (seed : List ℕ) (script : List Section) (text : List
   pub text_is : line ≡ entry_text place entry
 
 -- the notes of a whole run, with whose entries the text begins
-pub record AreExpectedNotes (seed : List ℕ) (script : List Section) (text : List ℕ) (place : ℕ) (notes : List ℕ)
+pub record AreExpectedNotes (seed : List ℕ) (script : List Section) (text : List ℕ) (place : ℕ)
+    (notes : List ℕ)
     : Type 0 where
   pub history : History
   pub begins : BeginsWith text (log_text history)

@@ -37,11 +37,13 @@ abbrev pub IsLineRead : {M : Type 0} → Bool → (History → M → Type 0) →
 IsLineRead strict reached_by seed callers place text mount callers' place' text' mount' true =
     (length text' < length text) × (place' ≡ place + 1)
     × ((script : List Section) (whole : List ℕ) (history : History)
-    → IsRead strict seed script whole place text history → CallersFollow reached_by seed script history callers mount
+    → IsRead strict seed script whole place text history
+    → CallersFollow reached_by seed script history callers mount
     → (e : MountEntry) × IsRead strict seed script whole place' text' (history ++ e ∷ [])
     × CallersFollow reached_by seed script (history ++ e ∷ []) callers' mount')
 IsLineRead strict reached_by seed callers place text mount callers' place' text' mount' false =
     (callers' ≡ callers) × (place' ≡ place) × (text' ≡ text)
     × ((script : List Section) (whole : List ℕ) (history : History)
-    → IsRead strict seed script whole place text history → CallersFollow reached_by seed script history callers mount
+    → IsRead strict seed script whole place text history
+    → CallersFollow reached_by seed script history callers mount
     → IsBlocked strict seed script history place text)

@@ -20,7 +20,8 @@ pub record AreCallers (seed : List ℕ) (script : List Section) (history : Histo
       → IsCaller seed script history number caller
 
 -- so they do, and the history may reach the mount
-pub record CallersFollow {M : Type 0} (reached_by : History → M → Type 0) (seed : List ℕ) (script : List Section)
+pub record CallersFollow {M : Type 0} (reached_by : History → M → Type 0) (seed : List ℕ)
+    (script : List Section)
     (history : History) (callers : List CallerView) (mount : M) : Type 0 where
   pub reached_of_reply : reached_by history mount
   pub own : AreCallers seed script history callers

@@ -17,12 +17,14 @@ ReplyHasMemory strict reply = IsTrue strict → reply ≢ Refused NoMemory
 
 -- the text begins with the line of this reply to the caller's call, and the rest comes after it; and each
 -- history that may reach the mount before may, with this entry, reach it now
-pub record ReadsReplyLine {M : Type 0} (strict : Bool) (reached_by : History → M → Type 0) (old new : M) (text : List ℕ)
+pub record ReadsReplyLine {M : Type 0} (strict : Bool) (reached_by : History → M → Type 0) (old new : M)
+    (text : List ℕ)
     (place caller : ℕ) (call : Call) (reply : Reply) (rest : List ℕ) : Type 0 where
   pub line : text ≡ entry_text place (entry caller call reply) ++ rest
   pub in_range : EntryIsInRange (entry caller call reply)
   pub memory : ReplyHasMemory strict reply
-  pub reached_of_reply : (history : History) → reached_by history old → reached_by (history ++ entry caller call reply ∷ []) new
+  pub reached_of_reply : (history : History) → reached_by history old
+      → reached_by (history ++ entry caller call reply ∷ []) new
 
 -- after a history that may reach the mount, the text begins with no line of a reply that the one-thread
 -- mount may have to the caller's call

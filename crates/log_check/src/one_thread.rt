@@ -25,7 +25,8 @@ pub trait OneThread {
             → reached_by (history ++ entry caller call.now result ∷ []) self.new };
 
     // Each history that may reach it is lawful.
-    ghost reached_lawful: { (history : History) (mount : Self) → reached_by history mount → IsLawful history };
+    ghost reached_lawful: { (history : History) (mount : Self) → reached_by history mount
+        → IsLawful history };
 
     // A call that takes memory and was out of memory leaves it as it is.
     ghost led_without_memory: { (history : History) (mount : Self) (caller : ℕ) (call : Call)

@@ -7,7 +7,8 @@ use Rattle.mount_links.specs.StepLaws.{AreSteps-append, own_parts-append, far_pa
 
 module _ {P Q : Type 0} (own_after_calls : P → PlacedCalls → P → Type 0)
     (far_after_calls : Q → PlacedCalls → Q → Type 0) where
-  pub LinkAfterCalls-none : ((port : P) → own_after_calls port [] port) → ((port : Q) → far_after_calls port [] port)
+  pub LinkAfterCalls-none : ((port : P) → own_after_calls port [] port)
+      → ((port : Q) → far_after_calls port [] port)
       → (port : LinkView P Q) → LinkAfterCalls own_after_calls far_after_calls port [] port
   LinkAfterCalls-none none_own none_far port = record {
     steps = [];
@@ -20,10 +21,12 @@ module _ {P Q : Type 0} (own_after_calls : P → PlacedCalls → P → Type 0)
   pub LinkAfterCalls-on : ((first second third : P) (e f : PlacedCalls) → own_after_calls first e second
       → own_after_calls second f third
       → own_after_calls first (e ++ f) third)
-      → ((first second third : Q) (e f : PlacedCalls) → far_after_calls first e second → far_after_calls second f third
+      → ((first second third : Q) (e f : PlacedCalls) → far_after_calls first e second
+      → far_after_calls second f third
       → far_after_calls first (e ++ f) third)
       → (first second third : LinkView P Q) (e f : PlacedCalls)
-      → LinkAfterCalls own_after_calls far_after_calls first e second → LinkAfterCalls own_after_calls far_after_calls second f third
+      → LinkAfterCalls own_after_calls far_after_calls first e second
+      → LinkAfterCalls own_after_calls far_after_calls second f third
       → LinkAfterCalls own_after_calls far_after_calls first (e ++ f) third
   LinkAfterCalls-on more_own more_far first second third e f p q = record {
     steps = p.steps ++ q.steps;
@@ -40,6 +43,7 @@ module _ {P Q : Type 0} (own_after_calls : P → PlacedCalls → P → Type 0)
 
   pub LinkAfterCalls-caller : (who : P → ℕ)
       → ((first second : P) (e : PlacedCalls) → own_after_calls first e second → who second ≡ who first)
-      → (first second : LinkView P Q) (e : PlacedCalls) → LinkAfterCalls own_after_calls far_after_calls first e second
+      → (first second : LinkView P Q) (e : PlacedCalls)
+      → LinkAfterCalls own_after_calls far_after_calls first e second
       → who second.own ≡ who first.own
   LinkAfterCalls-caller who one first second e p = one first.own second.own _ p.on_own

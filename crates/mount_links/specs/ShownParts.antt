@@ -18,5 +18,6 @@ logged_load label shown =
 
 -- the shown form of the calls on both mounts follows from that of the caller's calls, and their steps
 pub record ShowsBoth (steps : List LinkStep) (calls : PlacedCalls) : Type 0 where
-  pub on_own : own_parts logged_load steps (logged_calls calls) ≡ logged_calls (own_parts load_call steps calls)
+  pub on_own : own_parts logged_load steps (logged_calls calls)
+      ≡ logged_calls (own_parts load_call steps calls)
   pub on_far : far_parts steps (logged_calls calls) ≡ logged_calls (far_parts steps calls)

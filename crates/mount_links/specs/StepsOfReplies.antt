@@ -14,7 +14,8 @@ use Rattle.mount_links.specs.LinkCalls.{load_call, IsStep}
 -- the step of a call that asks for this. It depends on the place and the reply of the first call on the
 -- own mount, and the place of the one on the far mount, if there is one
 abbrev pub step_of_replies : Asked → ℕ → Reply → ℕ → LinkStep
-step_of_replies (Load label) place first there = if is_link label first then Followed label first there else Alone
+step_of_replies (Load label) place first there
+    = if is_link label first then Followed label first there else Alone
 step_of_replies (Store label) place first there =
     if is_link label first then Followed label first there
     else if is_out_of_memory first then NotMade label

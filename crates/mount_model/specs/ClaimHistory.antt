@@ -20,7 +20,8 @@ claims_after_op claims uid (RemoveKeyAll id) = without_id claims id
 claims_after_op claims uid other = claims
 
 abbrev pub claims_after_entry : ClaimSet → MountEntry → ClaimSet
-claims_after_entry claims e = if is_refused e.reply then claims else claims_after_op claims e.call.uid e.call.op
+claims_after_entry claims e
+    = if is_refused e.reply then claims else claims_after_op claims e.call.uid e.call.op
 
 abbrev pub claims_from : ClaimSet → History → ClaimSet
 claims_from claims [] = claims

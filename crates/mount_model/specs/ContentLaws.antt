@@ -51,7 +51,8 @@ pub record Reads (m : PlainMount) (n start len : ℕ) (got : List ℕ) (e : Moun
 -- other calls are allowed: keys are removed and added again, handles are closed and opened, names move
 abbrev pub WrittenIsRead : Type 0
 WrittenIsRead =
-    (before between : History) (write read : MountEntry) (n offset start len : ℕ) (bytes contents got : List ℕ)
+    (before between : History) (write read : MountEntry) (n offset start len : ℕ)
+    (bytes contents got : List ℕ)
     → AllFit (before ++ write ∷ between ++ read ∷ []) → KeysAgree (before ++ write ∷ between ++ read ∷ [])
     → IsLegal (before ++ write ∷ between ++ read ∷ [])
     → Writes (mount_after before) n offset bytes contents write

@@ -42,7 +42,8 @@ ReportsClaimOf claims e = ReportsClaims claims e.call.uid e.call.op e.reply
 
 abbrev pub ReportsClaimsFrom : ClaimSet → History → Type 0
 ReportsClaimsFrom claims [] = ⊤
-ReportsClaimsFrom claims (e ∷ es) = ReportsClaimOf claims e × ReportsClaimsFrom (claims_after_entry claims e) es
+ReportsClaimsFrom claims (e ∷ es) = ReportsClaimOf claims e
+    × ReportsClaimsFrom (claims_after_entry claims e) es
 
 -- each reply is one that the claims after the entries before it allow
 abbrev pub ReportsClaimsOf : History → Type 0

@@ -26,14 +26,16 @@ texts_in m d c = in_order (map (λ e. texts m.raws d c e.0) (children m.nodes d)
 pub record ShowsTextsAlone (m : PlainMount) (n : ℕ) (c : Context) : Type 0 where
   -- a listing has the texts of its names, and nothing else
   pub listing : (path : PathParts) (start : ℕ) → walk_path m path ≡ Ok n → is_dir_at m.nodes n ≡ true
-      → answer_to_list m path start ≡ unchanged_with m (reply.Names (take MAX_LISTED (drop start (texts_in m n c)))
+      → answer_to_list m path start
+      ≡ unchanged_with m (reply.Names (take MAX_LISTED (drop start (texts_in m n c)))
       (nat_lt (start + MAX_LISTED) (length (texts_in m n c))))
   -- it can't be opened
   pub opening : (caller : ℕ) (path : PathParts) → walk_path m path ≡ Ok n → is_link_at m.nodes n ≡ false
       → answer_to_open m caller path ≡ refusal_with m NoKey
   -- a symlink shows the text of its target
   pub target : (path : PathParts) (v : Node) (name : Name) → walk_path m path ≡ Ok n → get m.nodes n ≡ Some v
-      → v.body ≡ Link name → answer_to_read_link m path ≡ unchanged_with m (reply.Target (texts m.raws n c name))
+      → v.body ≡ Link name → answer_to_read_link m path
+      ≡ unchanged_with m (reply.Target (texts m.raws n c name))
 
 -- so of each node that is not keyed
 abbrev pub LockedNodesShowTexts : Type 0

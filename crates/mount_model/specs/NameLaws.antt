@@ -29,5 +29,6 @@ VisibleNamesResolve = (m : PlainMount) (d : ℕ) (name : Name) (x : ℕ) → IsW
 
 -- and a part resolves to nothing that is not shown so
 abbrev pub OnlyVisibleNamesResolve : Type 0
-OnlyVisibleNamesResolve = (m : PlainMount) (d : ℕ) (part : Name) (e : Name × ℕ) → visible_entry m d part ≡ Some e
+OnlyVisibleNamesResolve = (m : PlainMount) (d : ℕ) (part : Name) (e : Name × ℕ)
+    → visible_entry m d part ≡ Some e
     → (entry m.nodes d e.0 ≡ Some e.1) × (shown m d e.0 ≡ part)

@@ -41,7 +41,8 @@ answer_to_set_at m uid policy nonce d =
     answer_to_encrypt m uid d (context_of policy nonce) (context_at m.nodes d)
 
 abbrev pub answer_to_set_policy : PlainMount → ℕ → PathParts → List ℕ → List ℕ → Answer
-answer_to_set_policy m uid path policy nonce = at_node m (walk_path m path) (answer_to_set_at m uid policy nonce)
+answer_to_set_policy m uid path policy nonce
+    = at_node m (walk_path m path) (answer_to_set_at m uid policy nonce)
 
 -- ---- GetPolicy
 

@@ -36,6 +36,7 @@ stored m name bytes = record {
 abbrev pub answer_to_meta_store : PlainMount → List ℕ → ℕ → List ℕ → Answer
 answer_to_meta_store m name expected bytes =
     if nat_lt MAX_RECORD_BYTES (length bytes) then refusal_with m TooBig else
-    if not (version_of m.records name == expected) then refusal_with m (Changed (version_of m.records name)) else
+    if not (version_of m.records name == expected) then refusal_with m
+    (Changed (version_of m.records name)) else
     if is_out_of_records m name then refusal_with m NoSpace else
     stored m name bytes

@@ -35,7 +35,8 @@ answer_to_removed_claim m uid id = record {
 }
 
 abbrev pub answer_to_remove_key : PlainMount → ℕ → KeyId → Answer
-answer_to_remove_key m uid id = removing (refusal_with m) (answer_to_removed_claim m uid id) m.claims (is_busy m id) uid id
+answer_to_remove_key m uid id
+    = removing (refusal_with m) (answer_to_removed_claim m uid id) m.claims (is_busy m id) uid id
 
 -- the outcome of removing all claims on the key: a refusal, or `due`
 abbrev pub removing_all : {A : Type 0} → (Refusal → A) → A → ClaimSet → Bool → ℕ → KeyId → A

@@ -15,7 +15,8 @@ use Rattle.mount_names.specs.VisibleNames.{ShowsAs}
 abbrev pub names_of : List (Bor Name) → List Name
 names_of names = map (λ name. name.now) names
 
--- of these names, at most MAX_LISTED from number start on in the order of their bytes, and whether further ones follow
+-- of these names, at most MAX_LISTED from number start on in the order of their bytes, and whether further
+-- ones follow
 abbrev pub page_from : ℕ → List Name → Reply
 page_from start names =
     Names (take MAX_LISTED (drop start (in_order names)))

@@ -35,7 +35,8 @@ IsPlaceRefused s path long refusal = (m : PlainMount) (nonce : List ℕ) (body :
 abbrev pub MakesAt : MountState → MountState → Place → List ℕ → StoredBody → Reply → Type 0
 MakesAt old new place nonce stored reply = (m : PlainMount) (path : PathParts) (body : Body)
     → Represents old m → IsPlaceAt m path place
-    → is_long_target body ≡ false → stored ≡ stored_body m.raws m.next (inherited_context nonce place.context) body
+    → is_long_target body ≡ false
+    → stored ≡ stored_body m.raws m.next (inherited_context nonce place.context) body
     → IsWellFormed (answer_to_make m path nonce body).mount
     → IsAnswerOrNoMemory m (answer_to_make m path nonce body) reply new
 

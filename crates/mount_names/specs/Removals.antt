@@ -38,6 +38,7 @@ Unlinks old new e part reply = (m : PlainMount) (path : PathParts) → Represent
     → IsAnswerOf (answer_to_unlink m path) reply new
 
 abbrev pub RemovesDir : MountState → MountState → Entry → Name → Reply → Type 0
-RemovesDir old new e part reply = (m : PlainMount) (path : PathParts) → Represents old m → is_root path ≡ false
+RemovesDir old new e part reply = (m : PlainMount) (path : PathParts) → Represents old m
+    → is_root path ≡ false
     → Ok e ≡ entry_end false m path → part ≡ last_part path → IsWellFormed (answer_to_rmdir m path).mount
     → IsAnswerOf (answer_to_rmdir m path) reply new

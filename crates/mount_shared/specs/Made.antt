@@ -21,7 +21,8 @@ TakesStep m e state = IsStepAt m e × Represents state (mount_after_entry m e)
 pub record IsMade (old : MountState) (e : MountEntry) (new : MountState) : Type 0 where
   -- it is a step of every mount that the state represented, if a raw key that it adds agrees with what was
   -- added under its identifier before
-  pub represents : (m : PlainMount) → Represents old m → (is_refused e.reply ≡ false → KeyAgrees m.raws e.call.op)
+  pub represents : (m : PlainMount) → Represents old m
+      → (is_refused e.reply ≡ false → KeyAgrees m.raws e.call.op)
       → TakesStep m e new
   -- in any case the claims change according to the entry, and what it reports of them is so
   pub claims : new.ring.claims ≡ claims_after_entry old.ring.claims e

@@ -10,7 +10,8 @@ use Rattle.mount_model.specs.Port.{PlacedCalls}
 use Rattle.mount_shared.specs.SerialCalls.{SerialView, SerialAfterCalls}
 
 module _ {M : Type 0} where
-  pub SerialAfterCalls-none : (reaches : History → M → Type 0) (port : SerialView M) → SerialAfterCalls reaches port [] port
+  pub SerialAfterCalls-none : (reaches : History → M → Type 0) (port : SerialView M)
+      → SerialAfterCalls reaches port [] port
   SerialAfterCalls-none reaches port = record {
     placed = refl;
     next = omega arith;
@@ -21,7 +22,8 @@ module _ {M : Type 0} where
   }
 
   pub SerialAfterCalls-on : (reaches : History → M → Type 0) (a b c : SerialView M) (es fs : PlacedCalls)
-      → SerialAfterCalls reaches a es b → SerialAfterCalls reaches b fs c → SerialAfterCalls reaches a (es ++ fs) c
+      → SerialAfterCalls reaches a es b → SerialAfterCalls reaches b fs c
+      → SerialAfterCalls reaches a (es ++ fs) c
   SerialAfterCalls-on reaches a b c es fs p q =
       let first = p.next in
       let second = q.next in

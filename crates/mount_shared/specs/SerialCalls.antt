@@ -25,4 +25,5 @@ pub record SerialAfterCalls {M : Type 0} (reaches : History → M → Type 0)
   pub own : by old.caller calls ≡ calls
   pub counted : new.left + length calls ≡ old.left
   pub same_caller : new.caller ≡ old.caller
-  pub reached_by : (history : History) → reaches history old.machine → reaches (history ++ entries_of calls) new.machine
+  pub reached_by : (history : History) → reaches history old.machine
+      → reaches (history ++ entries_of calls) new.machine

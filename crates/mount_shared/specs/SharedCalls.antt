@@ -13,7 +13,8 @@ MountPass = PassView Call Reply
 
 -- the pass has made these calls, as its own, and has seen more of the history, which is still lawful;
 -- all else is as before
-pub record PassAfterCalls (lawful : History → Type 0) (old : MountPass) (calls : PlacedCalls) (new : MountPass)
+pub record PassAfterCalls (lawful : History → Type 0) (old : MountPass) (calls : PlacedCalls)
+    (new : MountPass)
     : Type 0 where
   pub made : new.mine ≡ old.mine ++ calls
   pub more : IsPrefix old.seen new.seen

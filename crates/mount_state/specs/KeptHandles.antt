@@ -19,7 +19,8 @@ opened_in entries = map_by_order nat_cmp (λ count. count) entries
 
 -- the index has each handle's node, a live number is below the caller's count, and no two handles of a
 -- caller have one number
-pub record IsIndexed (live : HandleList) (index : BTreeMap (ℕ × ℕ) ℕ) (opened : NumberedValues ℕ) : Type 0 where
+pub record IsIndexed (live : HandleList) (index : BTreeMap (ℕ × ℕ) ℕ) (opened : NumberedValues ℕ)
+    : Type 0 where
   pub indexed : (caller number : ℕ) → get pair_cmp index (caller, number) ≡ node_of live caller number
   pub numbered : (caller number : ℕ) → is_live live caller number ≡ true → number < opens_of opened caller
   pub single : (caller number : ℕ) → count_by (is_handle caller number) live ≤ 1

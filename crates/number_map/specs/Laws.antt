@@ -7,13 +7,15 @@ use Rattle.number_map.specs.Numbered.{NumberedValues, get, insert, remove, len, 
 pub record LeavesHere (V : Type 0) : Type 0 where
   pub inserted : (m : NumberedValues V) (k : ℕ) (v : V) → get (insert m k v) k ≡ Some v
   pub removed : (m : NumberedValues V) (k : ℕ) → get (remove m k) k ≡ None
-  pub changed_value : (m : NumberedValues V) (k : ℕ) (f : V → V) → get (changed m k f) k ≡ option_map f (get m k)
+  pub changed_value : (m : NumberedValues V) (k : ℕ) (f : V → V)
+      → get (changed m k f) k ≡ option_map f (get m k)
 
 -- and at each other number
 pub record LeavesOthers (V : Type 0) : Type 0 where
   pub inserted : (m : NumberedValues V) (k : ℕ) (v : V) (q : ℕ) → (q ≢ k) → get (insert m k v) q ≡ get m q
   pub removed : (m : NumberedValues V) (k q : ℕ) → (q ≢ k) → get (remove m k) q ≡ get m q
-  pub changed_value : (m : NumberedValues V) (k : ℕ) (f : V → V) (q : ℕ) → (q ≢ k) → get (changed m k f) q ≡ get m q
+  pub changed_value : (m : NumberedValues V) (k : ℕ) (f : V → V) (q : ℕ) → (q ≢ k)
+      → get (changed m k f) q ≡ get m q
 
 -- the number of values
 pub record Counts (V : Type 0) : Type 0 where

@@ -1,4 +1,5 @@
--- How a `RisingMap` is stored: a row of slots by rising number. The slot of a removed value stays for a while.
+-- How a `RisingMap` is stored: a row of slots by rising number. The slot of a removed value stays for a
+-- while.
 use Rattle.std.specs.Prelude.{◌≡◌, ℕ, List, [], ◌∷◌, map, length, Option}
 use Rattle.std.specs.List.Sorted.{IsStrictlySortedBy}
 use Rattle.std.specs.Map.{lookup}

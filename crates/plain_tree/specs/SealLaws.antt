@@ -13,7 +13,8 @@ use Rattle.plain_tree.specs.FittingNodes.{FitsInto, MovesInto}
 abbrev pub MakingKeepsSeals : Type 0
 MakingKeepsSeals = (texts : Texts) (nodes : Nodes) (next d : ℕ) (name : Name) (v : Node)
     → IsTree nodes next → CanBeMade nodes d name → IsNew v
-    → IsSealed texts nodes → FitsInto texts nodes d name v → IsSealed texts (with_new_node nodes d name next v)
+    → IsSealed texts nodes → FitsInto texts nodes d name v
+    → IsSealed texts (with_new_node nodes d name next v)
 
 abbrev pub DroppingKeepsSeals : Type 0
 DroppingKeepsSeals = (texts : Texts) (nodes : Nodes) (next d : ℕ) (name : Name) (x : ℕ)

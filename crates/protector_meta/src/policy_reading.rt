@@ -40,7 +40,8 @@ pub fn decode_policy_file(alloc: Global, text: &[u8]) -> Result<PolicyFile, Meta
     ensures found { IfOk result (λ p. IsPolicyFile p × (text.now ≡ policy_text p)) }
     ensures every { (p : PolicyFile) → IsPolicyFile p → text.now ≡ policy_text p
         → (result ≡ Ok p) ⊎ (result ≡ Err NoMemory) }
-    ensures bad { IfErr result (λ fault. (fault ≡ NoMemory) ⊎ NamesFirstBadLine IsPolicyRecord text.now fault) }
+    ensures bad { IfErr result
+        (λ fault. (fault ≡ NoMemory) ⊎ NamesFirstBadLine IsPolicyRecord text.now fault) }
     ensures only { IfErr result (λ fault. (line : ℕ) → IsFirstBad IsPolicyRecord text.now line
         → (fault ≡ NoMemory) ⊎ (fault ≡ Bad line)) }
     ensures none { (line : ℕ) (p : PolicyFile) → result ≡ Err (Bad line) → IsPolicyFile p

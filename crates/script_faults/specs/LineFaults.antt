@@ -18,7 +18,8 @@ fault_of_statement callers line None = Some (grammar_fault line)
 fault_of_statement callers line (Some Nothing) = None
 fault_of_statement callers line (Some (Caller uid)) =
     if nat_lt callers MAX_CALLERS then None else Some fault.NinthCaller
-fault_of_statement callers line (Some (Order verb)) = if nat_lt 0 callers then None else Some fault.NoCallerYet
+fault_of_statement callers line (Some (Order verb))
+    = if nat_lt 0 callers then None else Some fault.NoCallerYet
 
 -- why a line is at fault that a line feed ended
 abbrev pub fault_after : ℕ → List ℕ → Option LineFault

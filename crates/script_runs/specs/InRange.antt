@@ -9,7 +9,8 @@ abbrev pub AreInRange : PlacedCalls → Type 0
 AreInRange placed = All EntryIsInRange (entries_of placed)
 
 -- the port went from `old` to `new` by these calls, and each is in range
-pub record RangedAfterCalls {P : Type 0} (after_calls : P → PlacedCalls → P → Type 0) (old : P) (calls : PlacedCalls)
+pub record RangedAfterCalls {P : Type 0} (after_calls : P → PlacedCalls → P → Type 0) (old : P)
+    (calls : PlacedCalls)
     (new : P)
     : Type 0 where
   pub reached_by_call : after_calls old calls new

@@ -27,4 +27,5 @@ pub record Goes {M : Type 0} (reaches : History → M → Type 0) (caller : ℕ)
   pub placed : made ≡ entries_with_places old.places (entries_of made)
   pub given : new.places ≡ old.places + length made
   pub own : by caller made ≡ made
-  pub reached_by : (history : History) → reaches history old.machine → reaches (history ++ entries_of made) new.machine
+  pub reached_by : (history : History) → reaches history old.machine
+      → reaches (history ++ entries_of made) new.machine

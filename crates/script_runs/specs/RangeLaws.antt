@@ -17,16 +17,20 @@ are_in_range-append e f p q =
     (All-append EntryIsInRange (entries_of e) (entries_of f) p q)
 
 module _ {P : Type 0} where
-  pub RangedAfterCalls-none : (after_calls : P → PlacedCalls → P → Type 0) (none : (port : P) → after_calls port [] port)
+  pub RangedAfterCalls-none
+      : (after_calls : P → PlacedCalls → P → Type 0) (none : (port : P) → after_calls port [] port)
       (port : P)
       → RangedAfterCalls after_calls port [] port
-  RangedAfterCalls-none after_calls none port = record { reached_by_call = none port; ranged = All-nil EntryIsInRange }
+  RangedAfterCalls-none after_calls none port
+      = record { reached_by_call = none port; ranged = All-nil EntryIsInRange }
 
   pub RangedAfterCalls-on : (after_calls : P → PlacedCalls → P → Type 0)
-      (more : (first second third : P) (e f : PlacedCalls) → after_calls first e second → after_calls second f third
+      (more : (first second third : P) (e f : PlacedCalls) → after_calls first e second
+      → after_calls second f third
       → after_calls first (e ++ f) third)
       (first second third : P) (e f : PlacedCalls)
-      → RangedAfterCalls after_calls first e second → RangedAfterCalls after_calls second f third → RangedAfterCalls after_calls first (e ++ f) third
+      → RangedAfterCalls after_calls first e second → RangedAfterCalls after_calls second f third
+      → RangedAfterCalls after_calls first (e ++ f) third
   RangedAfterCalls-on after_calls more first second third e f p q = record {
     reached_by_call = more first second third e f p.reached_by_call q.reached_by_call;
     ranged = are_in_range-append e f p.ranged q.ranged;
@@ -34,5 +38,6 @@ module _ {P : Type 0} where
 
   pub RangedAfterCalls-caller : (who : P → ℕ) (after_calls : P → PlacedCalls → P → Type 0)
       (one : (first second : P) (e : PlacedCalls) → after_calls first e second → who second ≡ who first)
-      (first second : P) (e : PlacedCalls) → RangedAfterCalls after_calls first e second → who second ≡ who first
+      (first second : P) (e : PlacedCalls) → RangedAfterCalls after_calls first e second
+      → who second ≡ who first
   RangedAfterCalls-caller who after_calls one first second e p = one first second e p.reached_by_call

@@ -15,7 +15,8 @@ use turn_lock::{Pass, Shared};
 /// Returns how many calls the commands of the sections make, if each makes `most`. Returns `None` if a
 /// history has fewer places.
 pub fn max_calls_of_sections(sections: &[Section], most: u64) -> Option<u64>
-    ensures some { IfSome result (λ calls. (calls ≡ max_calls_of_sections most sections.now) × (calls ≤ MAX_PLACES)) }
+    ensures some { IfSome result
+        (λ calls. (calls ≡ max_calls_of_sections most sections.now) × (calls ≤ MAX_PLACES)) }
     ensures none { IfNone result (MAX_PLACES < max_calls_of_sections most sections.now) }
 {
     let mut calls: u64 = 0;

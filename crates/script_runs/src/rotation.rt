@@ -59,7 +59,8 @@ pub fn rotate<G: Gate, S: Stretch, M: MountMachine>(
     requires spelled { IsSpelled script.now }
     requires ready { S.ready stretches.now }
     requires reaches { M.reaches [] machine }
-    ensures { IfOk result (λ r. IsLogOf (IsRunBefore (λ history. M.reaches history r.1) (IsSerialRun M.lawful))
+    ensures { IfOk result (λ r. IsLogOf
+        (IsRunBefore (λ history. M.reaches history r.1) (IsSerialRun M.lawful))
         seed.now script.now r.0.entries.items r.0.notes.items) }
 {
     let sections = script.as_slice();

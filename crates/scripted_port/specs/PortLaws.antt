@@ -7,7 +7,8 @@ pub ScriptedAfterCalls-none : (port : ScriptedView) → ScriptedAfterCalls port 
 ScriptedAfterCalls-none port = refl
 
 pub ScriptedAfterCalls-on : (first second third : ScriptedView) (e f : PlacedCalls)
-    → ScriptedAfterCalls first e second → ScriptedAfterCalls second f third → ScriptedAfterCalls first (e ++ f) third
+    → ScriptedAfterCalls first e second → ScriptedAfterCalls second f third
+    → ScriptedAfterCalls first (e ++ f) third
 ScriptedAfterCalls-on first second third [] f p q = subst (λ port. ScriptedAfterCalls port f third) p q
 ScriptedAfterCalls-on first second third (x ∷ e) f p q =
     (p.0, p.1, ScriptedAfterCalls-on (after_call first x.1.call p.0) second third e f p.2 q)

@@ -11,7 +11,8 @@ use Rattle.session_records.specs.NewProtectors.{changed_protector}
 use Rattle.session_records.specs.Records.{unwrapped_protector}
 use Rattle.session_records.specs.MadeRecords.{secret_again, opened_protector}
 
--- a protector that a secret opened, and that then got another one, opens with the new one, to the key that it had
+-- a protector that a secret opened, and that then got another one, opens with the new one, to the key that it
+-- had
 abbrev pub ChangedProtectorsOpen : Type 0
 ChangedProtectorsOpen =
     (label : List ℕ) (secret : Secret) (reply : Reply) (opened : OpenedProtector)

@@ -34,4 +34,5 @@ made_protector label key new iv salt =
 
 -- the same protector with the same key, wrapped under a new secret's wrapping key
 abbrev pub changed_protector : Protector → List ℕ → NewSecret → List ℕ → List ℕ → Protector
-changed_protector old key new iv salt = rewrapped_protector old (new_kind salt new) (new_wrapping_key salt new) iv key
+changed_protector old key new iv salt
+    = rewrapped_protector old (new_kind salt new) (new_wrapping_key salt new) iv key

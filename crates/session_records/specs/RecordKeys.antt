@@ -39,7 +39,8 @@ checked_protector_key descriptor (Some key) =
 -- the key of a protector, under a wrapping key
 abbrev pub protector_key : Protector → List ℕ → Result (List ℕ) Outcome
 protector_key protector wrapping =
-    checked_protector_key protector.descriptor (opened_secret wrapping protector.iv protector.key protector.tag)
+    checked_protector_key protector.descriptor
+    (opened_secret wrapping protector.iv protector.key protector.tag)
 
 -- a policy's key that a protector's key opened, if it has the identifier in the record
 abbrev pub checked_policy_key : KeyId → Option (List ℕ) → Result (List ℕ) Outcome

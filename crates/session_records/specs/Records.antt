@@ -34,7 +34,8 @@ unwrapped_protector label secret reply = protector_by secret (loaded_protector l
 -- the record is a protector of this label, and the secret a passphrase that is stretched for it
 abbrev pub OpensByStretching : List ℕ → Secret → Reply → Type 0
 OpensByStretching label secret reply =
-    (loaded : LoadedProtector) × ((loaded_protector label reply ≡ Ok loaded) × IsStretched secret loaded.protector.kind)
+    (loaded : LoadedProtector)
+    × ((loaded_protector label reply ≡ Ok loaded) × IsStretched secret loaded.protector.kind)
 
 -- ---- a policy opened through a protector
 

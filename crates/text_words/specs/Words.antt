@@ -14,4 +14,5 @@ words_of line = slice_split is_space line
 
 -- the text after a word with which it begins
 abbrev pub rest_after : List ℕ → List ℕ → Option (List ℕ)
-rest_after word text = if bytes_eq (take (length word) text) word then Some (drop (length word) text) else None
+rest_after word text = if bytes_eq (take (length word) text) word then Some
+    (drop (length word) text) else None

@@ -43,7 +43,8 @@ fn numeral_len(number: u32) -> usize
 // The length of the part of a node's line after its number, or `None`.
 #[tactic(auto, using(crate::proofs::LengthLemmas::digits_are))]
 fn kind_len(context: &Option<[u8; 40]>, body: &Body) -> Option<usize>
-    ensures { IfSome result (λ len. len ≡ length (kind_text context.now (kind_of_body (body_in_order body.now)))) }
+    ensures { IfSome result (λ len. len
+        ≡ length (kind_text context.now (kind_of_body (body_in_order body.now)))) }
 {
     let context = context_len(context)?;
     match body {

@@ -79,8 +79,8 @@ impl<M: Machine> Shared<M> {
     }
 
     /// Makes a call, which is borrowed, under the pass's number: waits for the turn, and returns the reply
-    /// and its place in the history. Returns `PassExhausted` exactly when the pass has no calls left, and then
-    /// nothing has changed.
+    /// and its place in the history. Returns `PassExhausted` exactly when the pass has no calls left, and
+    /// then nothing has changed.
     pub fn call<W: Wait>(
         &self,
         rt: &W,
