@@ -87,7 +87,7 @@ def report(result):
     for row in set(listed) - {kind.row for kind in KINDS}:
         print(f"      -  {row} ({PAGE}:{listed[row]}; no kind: no script tries it)")
     print(f"{result.unknown:7}  of which Linux can't be asked whether a key is at hand")
-    print(f"{result.cut:7}  scripts cut, {result.behind} lines behind the cuts")
+    print(f"{result.cut:7}  scripts cut, {result.behind} lines after the cuts")
     for step in result.unexplained:
         show(step)
     print(f"{result.scripts} scripts, {result.lines} lines, {len(result.unexplained)} unexplained")
