@@ -145,10 +145,10 @@ def faulty_lines(tally):
         + b"; write it without leading zeros or a sign",
         b'4: "mkdri" is no command; ' + LISTED, b'6: "read" has too few words; read HANDLE OFFSET LENGTH'))
     status, got, told = run(SERIAL, script)
-    tally.wants("all lines at fault are told",
+    tally.wants("all lines at fault are reported",
                 (status, got, told) == (3, b"", b"fsc: bad line 1\n" + wanted), repr(told))
     status, got, told = run(SERIAL, b"caller 0\n" + b"mkdri\n" * 21)
-    tally.wants("twenty lines at fault are told",
+    tally.wants("twenty lines at fault are reported",
                 (status, got) == (3, b"") and told.count(b"is no command") == 20
                 and told.endswith(b"fsc: further lines are not looked at\n"), repr(told))
 
@@ -158,9 +158,10 @@ def advice_on_lines(tally):
     for script, told in LINES_AT_FAULT:
         status, got, line = run(SERIAL, script)
         wanted = b"fsc: bad line " + told[5:].split(b":")[0] + b"\nfsc: " + told + b"\n"
-        tally.wants(f"{script[:40]!r} tells why", (status, got, line) == (3, b"", wanted), repr(line))
+        tally.wants(f"{script[:40]!r} is refused with the reason", (status, got, line) == (3, b"", wanted),
+                    repr(line))
     _, _, line = run(SERIAL, b"\n" * (MAX_LINES + 1))
-    tally.wants("a line too many tells what to do",
+    tally.wants("a line too many is refused with what to do",
                 line == b"fsc: input too long\nfsc: a script has at most 1048576 bytes and 20000 lines\n",
                 repr(line))
 
@@ -169,7 +170,7 @@ def advice(tally):
     """Of arguments that are no command the one at fault is printed, and what to give."""
     for words, told in BAD_ARGUMENTS:
         status, got, line = run(words)
-        tally.wants(f"{words} tells its word",
+        tally.wants(f"{words} names its word",
                     (status, got, line.decode()) == (2, b"", f"fsc: usage\nfsc: {told}\n"), repr(line))
 
 

@@ -95,7 +95,7 @@ def two_callers(tally):
     path = os.path.join(TOP, "examples", "whole-session")
     script, log = read(path + ".fsc"), read(path + ".log")
     entries = b"".join(line for line in log.splitlines(keepends=True) if not line.startswith(b"note "))
-    tally.wants("a session's log without its notes is refused behind its lines",
+    tally.wants("a session's log without its notes is refused after its lines",
                 checked(script, entries) == (REFUSED, b"", 27))
     status, _, place = checked(script, log, ["check", "--seed", "1" * 64])
     tally.wants("a session's log by another seed is refused",
@@ -178,18 +178,18 @@ def told_faults(tally):
     not_ended = b"is not ended by a line feed; end the last line by a line feed"
     is_none = b'line 2: "mkdri" is no command; fsc --help lists the commands'
     bad = b"caller 1000\nmkdri /a\n"
-    no_room = (b"line 2: there was no room to tell why it is at fault; try the script alone, or where more "
-               b"memory is free")
+    no_memory = (b"line 2: there was no memory to find why it is at fault; try the script alone, or with "
+                 b"more memory free")
     for what, given, line, told in (
             ("no input", b"", 1, parting), ("a script alone", script, 3, parting),
-            ("an empty line behind a script", script + b"\n", 4, parting),
+            ("an empty line after a script", script + b"\n", 4, parting),
             ("a last line that isn't ended", script[:-1], 2, behind + b'line 2: "create" ' + not_ended),
             ("a parting line that isn't ended", script + b"---", 3, behind + b'line 3: "---" ' + not_ended),
             ("a caller's line that isn't ended", b"caller 1000", 1,
              behind + b'line 1: "caller" ' + not_ended),
             ("a parting line with a space", script + b"--- \n", 3,
              behind + b'line 3: "---" is no command; fsc --help lists the commands'),
-            ("a script with a log right behind it",
+            ("a script with a log right after it",
              script + b"0 0 1000 create /a = ok\n1 0 1000 stat /a = ok\n", 3,
              behind + b'line 3: "0" is no command; fsc --help lists the commands'),
             ("a bad line alone", bad, 2, behind + is_none),
@@ -197,10 +197,10 @@ def told_faults(tally):
             ("a bad line with as long a log as is kept",
              bad + b"---\n" + b"\n" * (MAX_PART + 1 - len(bad) - 4), 2, is_none),
             ("a bad line with a log of a byte more", bad + b"---\n" + b"\n" * (MAX_PART + 2 - len(bad) - 4),
-             2, no_room),
-            ("a bad line with a long log", bad + b"---\n" + b"\n" * 2 * MAX_PART, 2, no_room)):
+             2, no_memory),
+            ("a bad line with a long log", bad + b"---\n" + b"\n" * 2 * MAX_PART, 2, no_memory)):
         status, got, said = run(CHECK, given)
-        tally.wants(f"{what} is told", (status, got, said)
+        tally.wants(f"{what} is reported", (status, got, said)
                     == (BAD_LINE, b"", b"fsc: bad line %d\nfsc: " % line + told + b"\n"), repr(said))
 
 
@@ -219,7 +219,7 @@ def strictly(tally):
 
 
 def differences(tally):
-    """After a refusal stands what the log has there, and what a run has."""
+    """After a refusal comes what the log has there, and what a run has."""
     script, log = row("one_key_added_and_removed")
     lines = log.splitlines(keepends=True)
     due = lines[3][:-1] + b" (line %d of the script)" % len(script.splitlines())
@@ -247,7 +247,7 @@ def differences(tally):
             ("no notes", read(session + ".fsc") + b"---\n" + entries,
              last + b"fsc: the log has: nothing more\nfsc: a run has: " + notes[0])):
         status, got, told = run(CHECK, given)
-        tally.wants(f"{what} is told beside what a run has",
+        tally.wants(f"{what} is printed beside what a run has",
                     (status, got) == (REFUSED, b"") and told.split(b"\n", 2)[2] == wanted, repr(told))
 
 

@@ -23,7 +23,7 @@ DERIVED = re.compile(r"#\[derive\([^)]*\bPartialEq\b[^)]*\)\]\s*(?:#\[[^\]]*\]\s
                      r"(?:pub(?:\(\w+\))? )?(?:struct|enum) (\w+)")
 WRITTEN = re.compile(r"\bPartialEq(?:<[^>]*>)? for (\w+)")
 
-# Lines that have to be found, and lines that may stand.
+# Lines that have to be found, and lines that may be there.
 FOUND = ("if stretched.password.as_slice() == password {", "tag != other", "if raw.bytes() == other",
          "a == key.as_slice()")
 ALLOWED = ("key.len() == 32", "if kept.dir == dir {", "use_count == 0",

@@ -94,7 +94,7 @@ class Disk:
         return stored_name(self.raws[folder.context[8:24]], folder.context, folder.number, name)
 
     def found(self, folder, part):
-        """The plain name of an entry that a part of a path means: by that name, or by the text that stands
+        """The plain name of an entry that a part of a path means: by that name, or by the text that is
         for it."""
         if part in folder.body:
             return part

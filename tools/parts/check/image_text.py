@@ -21,7 +21,7 @@ def image_of(disk):
 
 
 def reached(disk):
-    """The nodes to which names lead from the root: what lay in a directory that is gone is gone too."""
+    """The nodes that names reach from the root: what was in a directory that is removed is removed too."""
     found, waiting = set(), [0]
     while waiting:
         node = disk.nodes[waiting.pop()]
@@ -78,7 +78,7 @@ def context_of(word):
 
 
 def node_of(line):
-    """The node of which a line tells, or None."""
+    """The node of a line, or None."""
     for kind in ("dir", "file", "link"):
         found = LINES[kind].fullmatch(line)
         if found and int(found[1]) < 2**32 and context_of(found[2]) is not False:

@@ -40,9 +40,9 @@ def dumps(tally, what, script, log):
     disk = disk_behind(script, log, SEED)
     image = image_of(disk)
     status, got, _ = run(DUMP, script)
-    tally.wants(f"the image behind {what} is the one made outside", (status, got) == (0, image),
+    tally.wants(f"the image after {what} is the one made outside", (status, got) == (0, image),
                 repr((status, got[:200])))
-    lists(tally, f"the image behind {what}", image, [*disk.raws.values()][:2])
+    lists(tally, f"the image after {what}", image, [*disk.raws.values()][:2])
     return image
 
 

@@ -37,7 +37,7 @@ def stored_answers(tally):
     cases = [("the stored logs", logs, 0)]
     for name in names:
         other = "quota" if name != "quota" else "too-big"
-        cases.append((f"{name} told as {other}",
+        cases.append((f"{name} reported as {other}",
                       logs.replace(f" = refused {name}\n", f" = refused {other}\n", 1), 1))
     for what, text, wanted in cases:
         status, last = unexplained(text)

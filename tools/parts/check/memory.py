@@ -44,7 +44,7 @@ def shown_commands(tally):
             if status == NO_MEMORY:
                 parts = shown.split(CLEARED)
                 in_commands += parts[-2:-1] in ([b"fsc: line 2: mkdir"], [b"fsc: line 3: list"])
-                tally.wants(f"the status stands alone where allocation {number} fails",
+                tally.wants(f"the status is alone if allocation {number} fails",
                             parts[-1].startswith(b"fsc: no memory\r\n"), repr(shown))
         tally.wants("commands find no memory", in_commands > 0)
 
@@ -55,8 +55,8 @@ def bad_lines_without_memory(tally):
     if shutil.which("cc") is None:
         return
     known = b'"mkdri" is no command; fsc --help lists the commands'
-    no_room = (b"there was no room to tell why it is at fault; try the script alone, or where more memory "
-               b"is free")
+    no_memory = (b"there was no memory to find why it is at fault; try the script alone, or with more "
+                 b"memory free")
     with tempfile.TemporaryDirectory() as room:
         failing = Failing(PROGRAM, room)
         for words in (SERIAL, ["dump", *SERIAL[2:]], ["check", *SERIAL[2:]]):
@@ -68,12 +68,12 @@ def bad_lines_without_memory(tally):
                     reasons.add(told)
             head = b"fsc: bad line 2\nfsc: "
             parting = b"no line --- is between the script and its log\nfsc: "
-            wanted = {head + b"line 2: " + message + b"\n" for message in (known, no_room)}
+            wanted = {head + b"line 2: " + message + b"\n" for message in (known, no_memory)}
             if words[0] == "check":
-                # of a text that isn't kept nobody knows whether such a line is there
+                # of a text that isn't stored it is not known whether such a line is there
                 wanted = {head + parting + b"line 2: " + message + b"\n"
-                          for message in (known, no_room)} | {head + b"line 2: " + no_room + b"\n"}
-            tally.wants(f"{words[0]} tells of a line as far as there is memory", reasons == wanted,
+                          for message in (known, no_memory)} | {head + b"line 2: " + no_memory + b"\n"}
+            tally.wants(f"{words[0]} reports a line as far as there is memory", reasons == wanted,
                         repr(reasons))
 
 
@@ -107,13 +107,13 @@ def refuses(judge, log):
 
 
 def keys_in_core(tally):
-    """No key stands more often in a core of the program than docs/SECURITY.md tells."""
+    """No key is more often in a core of the program than in docs/SECURITY.md."""
     tool = subprocess.run([f"{TOP}/tools/keys_in_core", PROGRAM], stdout=subprocess.PIPE,
                           stderr=subprocess.STDOUT, check=False)
     if tool.returncode == NO_TOOL:
         print("check: gdb is not there or may not trace, so no core was taken")
         return
-    tally.wants("no key stands more often than docs/SECURITY.md tells", tool.returncode == 0,
+    tally.wants("no key is more often in a core than docs/SECURITY.md has it", tool.returncode == 0,
                 tool.stdout.decode())
 
 

@@ -39,7 +39,7 @@ def broken_inputs(tally):
                 memory[page - count:page] = script[:count]
                 os.lseek(given.fileno(), end - count, os.SEEK_SET)
                 status, got, told = run(words, stdin=given)
-                tally.wants(f"an input that fails behind {count} bytes ends with 4",
+                tally.wants(f"an input that fails after {count} bytes ends with 4",
                             (status, got) == (4, b"") and told.startswith(READ_FAULT), str(status))
                 tally.wants(f"an input is read for {count} bytes",
                             os.lseek(given.fileno(), 0, os.SEEK_CUR) == end)
@@ -47,7 +47,7 @@ def broken_inputs(tally):
 
 def full_files(tally):
     """A file that takes only that many bytes has the beginning of the log of that length, and a fault is
-    told."""
+    reported."""
     script, log = whole(FIRST + ".fsc"), whole(FIRST + ".log")
 
     for words in (SERIAL, THREADED):
@@ -60,7 +60,7 @@ def full_files(tally):
                 got = file.read()
             is_so = (status,
                      told) == (0, b"") if count == len(log) else status == 5 and told.startswith(WRITE_FAULT)
-            tally.wants(f"a file that takes {count} bytes has so many of the log",
+            tally.wants(f"a file that takes {count} bytes has that many of the log",
                         is_so and got == log[:count], f"{status}, {len(got)} bytes")
 
 
@@ -83,7 +83,7 @@ def slow_pipes(tally):
 
 
 def closed_pipes(tally):
-    """A pipe that nobody reads any more is a fault of writing, whichever caller closed it and when; no
+    """A pipe without a reader is a fault of writing, whichever caller closed it and when; no
     signal ends the program."""
     for words in [*ALL_FORMS, SERIAL, THREADED]:
         end, pipe = os.pipe()
@@ -169,7 +169,7 @@ def hidden_secrets(tally):
         (b"unlock\td p raw:" + b"ab" * 32, b"abab"),
     ):
         status, got, told = run(SERIAL, b"caller 0\n" + line + b"\n")
-        tally.wants(f"{line[:20]!r} is told without its secret",
+        tally.wants(f"{line[:20]!r} is reported without its secret",
                     (status, got) == (3, b"") and told.startswith(b"fsc: bad line 2\n")
                     and secret not in told, repr(told))
 

@@ -94,7 +94,7 @@ def tests_named():
 def said_by(tally):
     """docs/ANSWERS.md: each answer's clause comes down to its definition, and its tests are there."""
     _, _, told = read("docs", "ANSWERS.md").partition(SAID_HEADING)
-    tally.wants("docs/ANSWERS.md tells which clause says each answer", bool(told))
+    tally.wants("docs/ANSWERS.md has the clause of each answer", bool(told))
     said, tests, every = definitions(), tests_named(), {name: clauses(name) for name in crates()}
 
     def clause_of(item):

@@ -74,7 +74,7 @@ def differing_states(first, second):
 
 
 def shadowed_states(tally):
-    """At each place of drawn scripts each key is in the state that the mount tells then."""
+    """At each place of generated scripts each key is in the state that the mount reports then."""
     compared, wrong = differing_states(MADE + TWICE, ["stat /"] * 16)
     tally.wants("a file opened twice keeps its key until the 2nd close", compared and not wrong, str(wrong))
     total = 0
@@ -122,7 +122,7 @@ def pictures_of_no_log(tally):
         for way in ("--text", "--svg"):
             status, text, told = shown(way, *words, given=given)
             is_line = told.startswith("picture: ") and told.count("\n") == 1
-            tally.wants(f"{way} of {what} is told", (status, text) == (1, "") and is_line, told)
+            tally.wants(f"{way} of {what} is reported", (status, text) == (1, "") and is_line, told)
 
 
 def causes_of_refusals(tally):

@@ -52,11 +52,11 @@ def lines_changed(lines):
         if not line.startswith("wrap "):
             yield f"without line {at + 1}", put_in(lines, at), "bad-record"
         yield f"with line {at + 1} twice", put_in(lines, at, line, line), "bad-record"
-        yield f"with a space behind line {at + 1}", put_in(lines, at, line + " "), "bad-record"
+        yield f"with a space after line {at + 1}", put_in(lines, at, line + " "), "bad-record"
         yield f"cut within line {at + 1}", put_in(lines[:at + 1], at) + line, "bad-record"
     yield "of another version", put_in(lines, 0, lines[0][:-1] + "3"), "bad-record"
     yield "of another name", put_in(lines, 1, "name other"), "bad-record"
-    yield "with an empty line behind", put_in(lines, len(lines), ""), "bad-record"
+    yield "with an empty line at the end", put_in(lines, len(lines), ""), "bad-record"
     yield "with a line feed less", put_in(lines, len(lines))[:-1], "bad-record"
     yield "as it was", put_in(lines, len(lines)), "ok"
 

@@ -53,7 +53,7 @@ def statuses(tally):
     for what, words, given, wanted, told in cases:
         status, _, line = run(words, given)
         tally.wants(f"{what} ends with {wanted}", status == wanted, f"it ended with {status}")
-        tally.wants(f"{what} tells {told.decode()!r}", line.startswith(told) and bool(line) == bool(told),
+        tally.wants(f"{what} prints {told.decode()!r}", line.startswith(told) and bool(line) == bool(told),
                     repr(line))
 
 
@@ -102,12 +102,12 @@ def waiting(tally):
             _, told = ended.communicate(timeout=120)
         finally:
             os.close(ours)
-        what = f"{' '.join(words[:2])} at a terminal tells {'' if wanted else 'not '}that it waits"
+        what = f"{' '.join(words[:2])} at a terminal prints {'' if wanted else 'not '}that it waits"
         tally.wants(what, (b"fsc: waiting for a script" in told) == wanted, repr(told))
 
 
 def faults(tally):
-    """Reading from a directory, writing to a full device and to a pipe that nobody reads."""
+    """Reading from a directory, writing to a full device and to a pipe without a reader."""
     folder = os.open(TOP, os.O_RDONLY)
     status, got, told = run(SERIAL, stdin=folder)
     os.close(folder)

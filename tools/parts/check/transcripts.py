@@ -131,7 +131,7 @@ def scripts_of_transcripts(tally):
     is_so = (status, log.decode().splitlines()) == (0, wanted)
     tally.wants("a script of three users has the calls in their order", is_so)
     _, script, _ = transcript("user a 1\na: write 0 0 text:a%20b\na: symlink /l text:x = ok\n", "--script")
-    tally.wants("a text is bytes where bytes stand, and no other word is",
+    tally.wants("a text is bytes where bytes are expected, and no other word is",
                 script == ["caller 1", "write 0 0 612062", "symlink /l text:x"], str(script))
 
 
@@ -141,7 +141,7 @@ def differing_answers(tally):
              "a: open /none\na: lock none = refused\na: lock none = refused not-found\na: lock none = ok\n")
     status, printed, _ = transcript(given)
     differing = [at for at, line in enumerate(printed) if line.startswith("#     differs: ")]
-    tally.wants("answers that differ are told below their lines",
+    tally.wants("answers that differ are printed below their lines",
                 [" ".join(printed[at - 1 - (at > 8)].split()) for at in differing] ==
                 ["a: mkdir /a = refused exists", "a: stat /a = stat dir 1 0 enc=0 key=1",
                  "a: lock none = refused"], str(printed))
@@ -171,7 +171,7 @@ def bad_lines_of_transcripts(tally):
     for word, form in OTHER_COMMANDS.items():
         _, _, told = transcript(f"user a 1\na: {word} /a\n")
         is_so = f"the nearest: {form}" in told[0]
-        tally.wants(f"behind {word} the nearest command is told", is_so, str(told))
+        tally.wants(f"after {word} the nearest command is printed", is_so, str(told))
     _, _, told = transcript("user a 1\na: link /a /b\n")
     tally.wants("a hard link is refused with the reason", "a file has one name" in told[0], str(told))
     for line, wanted in FAULTS[:-5]:
@@ -182,9 +182,9 @@ def bad_lines_of_transcripts(tally):
     tally.wants("a ninth user is reported", "ninth" in "".join(transcript(ninth)[2]))
     status, _, told = transcript("user a 1\n", "--seed", "00")
     is_so = status == USAGE and "64 hexadecimal digits" in told[0]
-    tally.wants("a seed that is none is told", is_so, str(told))
+    tally.wants("a seed that is none is reported", is_so, str(told))
     ended = subprocess.run([TOOL, "/nowhere"], capture_output=True, timeout=SECONDS, check=False)
-    tally.wants("a missing file is told", ended.returncode == USAGE and b"can't be read" in ended.stderr
+    tally.wants("a missing file is reported", ended.returncode == USAGE and b"can't be read" in ended.stderr
                 and b"Traceback" not in ended.stderr)
 
 
@@ -231,10 +231,10 @@ def states_of_transcripts(tally):
     found = states_told(transcript(SHARED, "--state")[1])
     tally.wants("states are those of the model", found == STATES, str(found))
     found = states_told(transcript(SHARED, "--state", "--at", "12")[1])
-    tally.wants("with --at one state is told", found == {12: STATES[11]}, str(found))
+    tally.wants("with --at one state is printed", found == {12: STATES[11]}, str(found))
     eight = SHARED.replace("bert 1001\n", "bert 1001\n" + "".join(f"user u{at} {at}\n" for at in range(6)))
     found = states_told(transcript(eight, "--state", "--at", "17")[1])
-    tally.wants("states of eight users are told", found == {17: STATES[11]}, str(found))
+    tally.wants("states of eight users are printed", found == {17: STATES[11]}, str(found))
 
 
 def linux_beside_transcripts(tally):
@@ -249,7 +249,7 @@ def linux_beside_transcripts(tally):
             found[line] = what[1], what[3]
             row = page[int(what[2]) - 1]
             tally.wants(f"docs/LINUX.md has the row of {what[3]} there", row.startswith(f"| {what[3]} |"))
-    tally.wants("Linux's answers are told where they differ", found == IN_LINUX, str(found))
+    tally.wants("Linux's answers are printed where they differ", found == IN_LINUX, str(found))
 
 
 def reports_without_expectations(tally):

@@ -173,8 +173,8 @@ class Session:
         return "\n".join([*HEADS, *(line.format(**words) for _, line in PLAN)]) + "\n"
 
     def told(self):
-        """What the log has to tell, so that the keys are known to be the run's: the records of protector and
-        policy."""
+        """What the log has to contain, so that the keys are known to be the run's: the records of protector
+        and policy."""
         iv = drawn(NUMBERS["make login"], IV, 16)
         wrapped, tag = wrap(self.secrets["login"].wrapping_key(), iv,
                             drawn(NUMBERS["make login"], NONCE_OR_KEY, 32))

@@ -42,7 +42,7 @@ class Beside:
         self.has_failed, self.parent = False, os.getppid()
 
     def told(self):
-        """The crates that `rt ci` has told of as proved since the last call, or None where it has failed, or
+        """The crates that `rt ci` has reported as proved since the last call, or None where it has failed, or
         what began this run is gone."""
         if os.getppid() != self.parent or not self.file.is_file():
             return self.fail()
@@ -64,7 +64,7 @@ class Beside:
         self.end.set()
 
     def take(self, name):
-        """Takes a crate's library, by links where these can be made: when `rt ci` ends it puts back what lay
+        """Takes a crate's library, by links where these can be made: when `rt ci` ends it puts back what was
         there before."""
         made = self.top / "crates" / name / "out" / "rlib" / f"{name}.rlib"
         if made.is_dir():
@@ -72,11 +72,11 @@ class Beside:
                             dirs_exist_ok=True)
 
     def folder(self, name):
-        """Where a crate's library lies for this run."""
+        """Where a crate's library is for this run."""
         return self.room / name
 
     def await_idle(self):
-        """Waits until a processor stands idle and memory is free, or the proofs have ended."""
+        """Waits until a processor is idle and memory is free, or the proofs have ended."""
         while not self.end.is_set():
             before, began = idle_time(), time.monotonic()
             self.end.wait(LOOK)

@@ -9,7 +9,7 @@ from dataclasses import dataclass
 from parts.edits.edit_rounds import answers
 from parts.edits.wrong_edits import Edit, Function, every_function, place_of, reduced, whole
 
-# A module of definitions or of lemmas that lies right in its folder.
+# A module of definitions or of lemmas that is right in its folder.
 MODULE = re.compile(r"(specs|proofs)/(?!Lib\.)[\w-]+\.antt")
 # What a file imports.
 IMPORT = re.compile(r"^(?:ghost )?use ([\w.+-]+?)(?:\.\{([^}]*)\}| as (\w+));?\n", re.M)
@@ -65,8 +65,8 @@ def without_idle(crate, text):
 
 
 def law_of(edit, texts):
-    """The law that is reported to refuse the edit: the one function that it tells, if that is no method and
-    lies in a module right below the root."""
+    """The law that is reported to refuse the edit: the one function that it names, if that is no method and
+    is in a module right below the root."""
     found = [function for function in every_function(texts) if place_of(function, texts) in edit.refused]
     return found[0] if len(edit.refused) == len(found) == 1 and not found[0].of_type and found[
         0].is_plain and found[0].file.count("/") == 1 else None
@@ -86,7 +86,7 @@ def is_copied(crate, edit, texts):
 def copied_for(crate, law, edit, texts):
     """The texts of the law and of its proof as a copy has them, but for the names, by their files; and the
     files of the definitions and lemmas to copy with it: those that depend on what is edited and on which the
-    law stands."""
+    law depends."""
     modules, lines = modules_of(crate, texts), texts[law.file].split("\n")
     items = "".join(ITEM.findall("\n".join(lines[:law.first]) + "\n"))
     made = {law.file: without_idle(crate, items + "\n".join([*reduced(law, lines, edit.ensures), ""]))}

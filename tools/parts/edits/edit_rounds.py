@@ -23,7 +23,7 @@ def holed(crate, texts, untouched, taken, kept=()):
     its place is sure, and with no body, where another will do. Whatever depends on such a function has its
     contract, as ever, and its own proof costs nothing, nor does what its body calls. One whose proof another
     proof names keeps it, and so does one that is proved together with others, and those whose folders are
-    told."""
+    passed."""
     made, kept = dict(texts), set(kept)
     for file, text in untouched.items():
         if file.startswith("proofs/"):
@@ -77,7 +77,7 @@ def has_free_proof(crate, function, texts):
 
 
 def header_of(function, lines):
-    """The lines that open the block in which a method stands, and what is imported in it above the
+    """The lines that open the block in which a method is, and what is imported in it above the
     method."""
     first = next(number for number in range(function.first, -1, -1) if BLOCK.match(lines[number]))
     last = next(number for number in range(first, function.first) if lines[number].endswith("{"))
@@ -134,7 +134,7 @@ def with_copies(crate, edits, texts):
     of, and the edits each in a function of its own: a copy has another name and the proof of the first,
     which it doesn't hide and that doesn't hide it. An edit that names the clause at which it is refused is
     made in a copy that ensures this one alone, or nothing, so that nothing is tried for the others: no
-    clause is a fact that is in the goals of another. One that tells goals at which it is refused besides
+    clause is a fact that is in the goals of another. One that names goals at which it is refused besides
     has holes for them, since it is refused where one goal is."""
     texts, made, taken, untouched = dict(texts), [], [], texts
     for edit in edits:

@@ -41,7 +41,7 @@ def crates_of(top):
         ready = [crate for crate, (_, below) in lines.items() if crate not in found
                  and all(low in found for low in below if low in lines)]
         if not ready:
-            raise SystemExit("crates of crates.txt stand on one another in a ring")
+            raise SystemExit("crates of crates.txt use one another in a ring")
         for crate in ready:
             line, below = lines[crate]
             found[crate] = Crate(crate, line, tuple(low for low in below if low in lines),
@@ -111,9 +111,9 @@ class Run:
         self.last = next((line for line in reversed(self.said) if line.strip()), "")
 
     def waited(self, ran, stages):
-        """Waits for the prover, and gives what it used. Once a check's verdict stands, as the file of its
-        stages tells, it may open no further file: it would go over all once more, a fourth of its work, to
-        print files in which the open goals are to be answered. It tells in a note that it can't."""
+        """Waits for the prover, and gives what it used. Once a check has its verdict, as the file of its
+        stages reports, it may open no further file: it would go over all once more, a fourth of its work, to
+        print files in which the open goals are to be answered. It reports in a note that it can't."""
         pid = 0
         while not pid:
             time.sleep(0.05)

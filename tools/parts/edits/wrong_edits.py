@@ -28,7 +28,7 @@ PROOF = re.compile(r"(?:\./)?proofs/(\S+?):\d+:\d+: error\b(.*)")
 STATED = re.compile(r"(?:\./)?(?:src|specs)/\S+?:\d+:\d+: error: (`[^`]*`: )?(.*)")
 UNREAD = re.compile(
     r"is not in scope|has no field|is no name|operand is missing|expected the end|cannot continue")
-# A proof that only cites what the edit took away says little of the contract, and what depends on such a
+# A proof that only cites what the edit removed says little of the contract, and what depends on such a
 # proof nothing at all.
 BY_A_NAME = re.compile(r"has no field|record `[^`]*`(?: \(nearest|$)|is not in scope|has no `|was not "
                        r"admitted|which was rejected, w\w+ not checked")
@@ -46,7 +46,7 @@ class BadEdit(Exception):
 class Function:
     """A function of a file: the type whose method it is, if any, and its lines with the attributes above it,
     the first of the body among them, from 0. It is plain where its own name and its type's report where its
-    proof lies: no method of a trait, of some of a type's instances or of a ring. A trait's method has the
+    proof is: no method of a trait, of some of a type's instances or of a ring. A trait's method has the
     name of its impl besides, as folders of proofs have it, where that is sure."""
     file: str
     of_type: str
@@ -188,7 +188,7 @@ def functions(file, text):
 
 
 def pairs_of(text):
-    """The replacements that an edit's text tells."""
+    """The replacements of an edit's text."""
     found, file, old = [], "", None
     for line in text.split("\n"):
         if line.startswith("file: "):
@@ -197,17 +197,17 @@ def pairs_of(text):
                 raise BadEdit(f"{file} is no file of src/, specs/ or proofs/")
         elif line.startswith("old: "):
             if old is not None:
-                raise BadEdit(f"a line 'new:' is missing behind: {old}")
+                raise BadEdit(f"a line 'new:' is missing after: {old}")
             old = line[5:]
         elif line.startswith("new:"):
             if not file or not old:
-                raise BadEdit("a line 'new:' stands before its 'file:' or 'old:'")
+                raise BadEdit("a line 'new:' comes before its 'file:' or 'old:'")
             found.append((file, old, re.sub(r"\A ", "", line[4:])))
             old = None
         elif line.strip() and not line.startswith(("refused: ", "ensures: ", "leaves: ")):
             raise BadEdit(f"a line is of no kind: {line}")
     if old is not None:
-        raise BadEdit(f"a line 'new:' is missing behind: {old}")
+        raise BadEdit(f"a line 'new:' is missing after: {old}")
     if not found:
         raise BadEdit("it has no pair of lines 'old:' and 'new:'")
     return tuple(found)
@@ -216,7 +216,7 @@ def pairs_of(text):
 def once(text, old, new):
     """The text with the new part in place of the old one, which is in it once."""
     if text.count(old) != 1:
-        raise BadEdit(f"its text stands {text.count(old)} times, and not once: {old}")
+        raise BadEdit(f"its text is there {text.count(old)} times, and not once: {old}")
     return text.replace(old, new)
 
 
@@ -310,7 +310,7 @@ def module_of(file):
 
 
 def place_of(function, texts):
-    """The path of a function below its crate, as a check names it and as its proof lies, or None where that
+    """The path of a function below its crate, as a check names it and as its proof is stored, or None if that
     isn't sure: a method is in the module of its type, and a trait's in that of its impl."""
     if not function.is_plain and not function.of_impl:
         return None
@@ -377,7 +377,7 @@ def told(said):
 
 
 def goal_of(line):
-    """The goal that a line refuses, or an empty text where it tells none."""
+    """The goal that a line refuses, or an empty text if it names none."""
     goal = re.search(r"\(`([\w-]+)`\)" if GOAL.match(line) else r": error: `([\w-]+)`: ", line)
     return goal[1] if goal else ""
 
@@ -390,7 +390,7 @@ def is_tried(edit, line):
 
 def tells_most(lines):
     """Of the lines that refuse an edit the one that says most of the contract, or an empty text: a fact
-    that the function ensures, of which a searched one tells more than a written proof that doesn't fit; else
+    that the function ensures, of which a searched one says more than a written proof that doesn't fit; else
     what a call of the body asks for, a loop or a type keeps."""
     strong = [line for line in lines if is_strong(line) and goal_of(line)]
     is_clause = lambda line: bool(re.match(r"(returns|ends)\b", goal_of(line)))

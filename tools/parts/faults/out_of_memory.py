@@ -1,8 +1,8 @@
 """Whether a log is right where some calls of its run found no memory.
 
-A refused call changes nothing that any call tells (docs/ANSWERS.md), and each command of a session ends with
-the first call that is refused, where all its calls before only load records. So the others are answered as
-in a run of the script in which the command is one that does nothing, `drop-caches`. What that run tells
+A refused call changes nothing that any call reports (docs/ANSWERS.md), and each command of a session ends
+with the first call that is refused, if all its calls before only load records. So the others are answered as
+in a run of the script in which the command is one that does nothing, `drop-caches`. What that run prints
 comes from the program itself, which had memory then.
 """
 import collections
@@ -99,7 +99,7 @@ def owners_of(order, entries, notes):
 def counts_of(command, entries, outcome):
     """How many of the entries may be the command's, which ended with this outcome.
 
-    Where a record ended it, the entries alone may not tell: then the next command's may look like its own.
+    Where a record ended it, the entries alone may not show it: then the next command's may look like its own.
     """
     if command.words[0] == "pause":
         return [0]
@@ -131,7 +131,7 @@ class Judge:
         self.order = rotation_of(self.sections)
 
     def without(self, refused):
-        """What the run tells in which these commands do nothing."""
+        """What the run prints in which these commands do nothing."""
         if refused not in self.known:
             lines = self.script.split("\n")
             for number in refused:
@@ -195,4 +195,4 @@ class Judge:
                 if any(entry.reply == REFUSED and entry.call.split(" ")[0] in FREE for entry in mine):
                     raise Wrong(f"the calls of line {command.line} are {mine}")
                 if outcome is not None and (outcome == "no-memory") != (mine[-1].reply == REFUSED):
-                    raise Wrong(f"the note of line {command.line} is {outcome} behind {mine[-1]}")
+                    raise Wrong(f"the note of line {command.line} is {outcome} after {mine[-1]}")

@@ -66,7 +66,7 @@ def lines_at_end(program, words, files, room, writes):
 
 
 def taken(name, room):
-    """The commands that take a core at this moment and report where each part of the memory lies."""
+    """The commands that take a core at this moment and report where each part of the memory is."""
     return f"echo \\nMOMENT {name}\\n", "info proc mappings", f"gcore {os.path.join(room, name)}"
 
 
@@ -120,7 +120,7 @@ def stopped(program, given, moments, room, lines):
 
 
 def drained(terminal):
-    """Reads what a terminal shows until nobody writes to it any more."""
+    """Reads what a terminal shows until its last writer has closed it."""
     try:
         while os.read(terminal, 65536):
             pass

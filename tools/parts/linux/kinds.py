@@ -1,6 +1,6 @@
 """The kinds of difference between the mount and Linux, each with its row in docs/LINUX.md.
 
-A kind says of a step in which the two answered otherwise whether it is the difference that the row tells:
+A kind says of a step in which the two answered otherwise whether it is the difference of the row:
 what holds of the mount before the call, and both answers.
 """
 import dataclasses
@@ -38,8 +38,7 @@ def told_held(reply):
 
 
 def held_otherwise(step, here):
-    """Whether of the mount and Linux just the one reports that a key is held, and all else that they report is
-    the same."""
+    """Whether of the mount and Linux just the one reports that a key is held, and all else is the same."""
     rest = [reply.split(" ")[2:] for reply in (step.ours, step.theirs) if reply.startswith("status")]
     return is_key_call(step) and (told_held(step.ours),
                                   told_held(step.theirs)) == (here, not here) and rest[:1] == rest[1:]
@@ -107,7 +106,7 @@ def open_below(step):
 
 
 def open_unlinked(step):
-    """Linux's dead entry of an open node holds the directory in which it stood."""
+    """Linux's dead entry of an open node holds the directory in which it was."""
     if held_otherwise(step, False):
         key = step.words[0]
         return not step.books.users_of(key) and any(
@@ -150,7 +149,7 @@ def opens_locked(step):
 
 
 def policy_by_root(step):
-    """User 0 sets a policy on whose key nobody has a claim."""
+    """User 0 sets a policy on whose key no user has a claim."""
     return (step.verb == "set-policy" and step.user == 0 and step.refused == "no-key" and step.theirs == "ok"
             and not step.books.present(step.words[1][16:]))
 

@@ -88,7 +88,7 @@ def locked_file_asked(step):
 
 
 def policy_by_user_0(step):
-    """User 0 sets a policy by a key that nobody has a claim on."""
+    """User 0 sets a policy by a key that no user has a claim on."""
     is_so = step.verb == "set-policy" and step.user == 0 and step.refused == "no-key"
     return "ok" if is_so and not step.books.present(step.words[1][16:]) else None
 

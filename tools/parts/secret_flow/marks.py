@@ -66,7 +66,7 @@ class Marks:
 
     def derived(self, run, registers):
         """HKDF's output: identifiers, nonces, ivs and salts. A tag that is computed here is not among the
-        values: that of a wrong key is one that nobody may learn."""
+        values: that of a wrong key is one that no reader may learn."""
         out = registers["rdi"]
 
         def finished(run, _):

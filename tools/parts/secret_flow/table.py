@@ -56,7 +56,7 @@ class Row:
 
 def allowed_for(place):
     """The entry of ALLOWED that a place is in. A division has no secret of its own: memcheck doesn't
-    report it. Where any secret may be, so may one whose origin memcheck tells by the frame that it went
+    report it. Where any secret may be, so may one whose origin memcheck reports by the frame that it went
     through."""
     for allowed in ALLOWED:
         is_here = re.fullmatch(allowed.functions, place.function)

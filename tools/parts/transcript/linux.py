@@ -86,7 +86,7 @@ def lines_of(name):
 def asked_of_kernel(program, script, version):
     """The calls that a kernel made of a script, by tools/linux."""
     if not os.path.exists(LINUX):
-        raise Failure("a kernel is asked by tools/linux, which stands in the repository of fsc alone")
+        raise Failure("a kernel is asked by tools/linux, which is in the repository of fsc alone")
     with tempfile.TemporaryDirectory() as folder:
         name = os.path.join(folder, "transcript.fsc")
         with open(name, "wb") as file:

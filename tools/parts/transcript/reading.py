@@ -107,7 +107,7 @@ def bytes_word(word):
 
 
 def script_command(words):
-    """The command as a script has it: texts in hexadecimal where bytes stand, or a raw key."""
+    """The command as a script has it: texts in hexadecimal where bytes are expected, or a raw key."""
     at = BYTES_AT.get(words[0])
     is_bytes = [place == at or (word.startswith("raw:") and words[0] != "symlink")
                 for place, word in enumerate(words)]

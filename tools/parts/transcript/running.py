@@ -69,7 +69,7 @@ def found_program(given):
     """The program that runs: the one given, FSC_PROGRAM, one that is here, else that on the PATH."""
     places = [given, os.environ.get("FSC_PROGRAM")]
     if not any(places):
-        # at the top of a checkout stands the command that proves, and elsewhere the program
+        # at the top of a checkout is the command that proves, and elsewhere the program
         is_checkout = os.path.isdir(os.path.join(TOP, "crates"))
         places = [PROVED, UNPROVED] if is_checkout else [RELEASED]
         places.append(shutil.which("fsc"))

@@ -11,7 +11,7 @@ void cut(const char *why)
 	shared->cut = true;
 }
 
-/* The answer of a call that tells nothing but whether it was done; true where it was. */
+/* The answer of a call that reports nothing but whether it was done; true where it was. */
 bool done(const struct call *call, int result, int error)
 {
 	if (result >= 0) {

@@ -173,7 +173,7 @@ static void list(const struct call *call)
 	drop_entries(entries, count);
 }
 
-/* Whether a file's key is at hand, which an open tells. */
+/* Whether a file's key is at hand, which an open shows. */
 static char key_of_file(void)
 {
 	int descriptor = open(path, O_RDONLY | O_NOFOLLOW);
@@ -275,7 +275,7 @@ static void read_file(const struct call *call)
 	}
 }
 
-/* The bytes are given, or a length and one byte. What the mount refuses is cut off again where it stands
+/* The bytes are given, or a length and one byte. What the mount refuses is cut off again where it is
  * at the end. */
 static void write_file(const struct call *call)
 {

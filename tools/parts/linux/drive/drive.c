@@ -16,8 +16,8 @@
  * back, or where that can't be the script is cut. In a path the part `@N=TEXT` is the mount's
  * no-key text of node N: the name by which this kernel lists that node represents it.
  *
- * After an answer stand, each after a tab, words `key:value` for the comparison: the error, the
- * nodes of a listing, and what was taken back or cut. A line `F TEXT` tells a fault of drive's own.
+ * After an answer come, each after a tab, words `key:value` for the comparison: the error, the
+ * nodes of a listing, and what was taken back or cut. A line `F TEXT` reports a fault of drive's own.
  */
 #define _GNU_SOURCE
 #include "drive.h"

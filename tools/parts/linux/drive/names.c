@@ -122,7 +122,7 @@ void resolve(const char *prefix, const char *text, char *path)
 		strcpy(path, "/");
 }
 
-/* Whether a link stands within the path, before its last part. */
+/* Whether a link is within the path, before its last part. */
 bool through_link(const char *path)
 {
 	static char above[MAX_PATH];
