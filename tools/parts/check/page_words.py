@@ -3,7 +3,7 @@ import os
 import re
 
 from parts import TOP
-from parts.check.page_files import crates, pages, read
+from parts.check.page_files import crates, pages, read, sources
 
 # Names that pages have as code and the repository doesn't: of other programs, and forms of names.
 OTHER_NAMES = {"NAME_steps", "libgcc_s", "getentropy", "start_io", "push_"}
@@ -58,6 +58,35 @@ def names(tally):
         if page not in OTHER_PAGES and os.path.isfile(os.path.join(TOP, page)):
             lacking = sorted(set(identifiers(read(page))) - known - OTHER_NAMES)
             tally.wants(f"{page} names {', '.join(lacking)}, which nothing has", not lacking)
+
+
+# What defines a word: in specs/ a definition, type or variant, in src/ a function, type, member or variant.
+DEFINED = [re.compile(pattern, re.MULTILINE) for pattern in (
+    r"^ *(?:abbrev|unfoldable|instance) pub ([\w-]+)", r"^pub (?:record |data )?([\w-]+)", r"^  (\w+) :",
+    r"\b(?:fn|struct|enum|trait|type|const|ghost)\s+(\w+)", r"^    ([A-Z]\w*)(?:\(|,| \{)")]
+
+
+def defined(name):
+    """The definitions, functions, types and variants of a crate, and what it passes on of other libraries."""
+    for suffix in (".antt", ".rt"):
+        for _, text in sources(name, suffix):
+            for pattern in DEFINED:
+                yield from pattern.findall(text)
+            for listed in re.findall(r"^pub use [\w.]+\.\{([^}]*)\}", text, re.MULTILINE):
+                yield from (part.split(" as ")[-1].strip() for part in listed.split(","))
+
+
+def tables(tally):
+    """Each word in the first column of a README's table of words is defined in its crate."""
+    for name in crates():
+        known, is_of_words = set(defined(name)), False
+        for line in read("crates", name, "README.md").splitlines():
+            cells = line.split("|")
+            if len(cells) < 3 or cells[1].strip() in ("word in `specs/`", "definition", "function"):
+                is_of_words = len(cells) >= 3
+                continue
+            for word in re.findall(r"`([A-Za-z_]\w*)", cells[1]) if is_of_words else ():
+                tally.wants(f"crates/{name}/README.md names {word}, which the crate defines", word in known)
 
 
 def prose(text):
