@@ -45,18 +45,20 @@ def identifiers(text):
 
 def names(tally):
     """Each name that a page has as code is one of the code, the tools or the examples."""
-    known = set()
+    known, paths = set(), set()
     for folder in ("crates", "tools", "examples", ".ci"):
         for at, _, files in os.walk(os.path.join(TOP, folder)):
             if "/out" not in at:
                 for file in files:
                     known.add(file.partition(".")[0])
+                    paths.add("/".join(os.path.relpath(os.path.join(at, file), TOP).split("/")[2:]))
                     if not file.endswith((".md", ".svg", ".pyc")):
                         with open(os.path.join(at, file), encoding="utf-8", errors="replace") as text:
                             known |= set(re.findall(r"\w+", text.read()))
     for page in pages():
         if page not in OTHER_PAGES and os.path.isfile(os.path.join(TOP, page)):
-            lacking = sorted(set(identifiers(read(page))) - known - OTHER_NAMES)
+            named = set(re.findall(r"`((?:src|specs|proofs)/[\w/]+\.(?:rt|antt))`", read(page)))
+            lacking = sorted(set(identifiers(read(page))) - known - OTHER_NAMES | named - paths)
             tally.wants(f"{page} names {', '.join(lacking)}, which nothing has", not lacking)
 
 
