@@ -7,7 +7,7 @@ from parts.speed.timing import alone
 SUFFIX = ".instr"
 
 
-def count_kernels(counter, kernels, rows):
+def count_kernels(counter, kernels):
     """Kernels beside the rivals that are programs in C."""
     for kernel in tables.COUNTED:
         if kernels.wants(kernel.name):
@@ -24,16 +24,16 @@ def count_kernels(counter, kernels, rows):
             ours = counter.side(alone("", work))
             first = first or ours
             goal = tables.FLAT_GOAL if name == tables.NODE_COUNTS[-1][0] else None
-            rows.row(name + SUFFIX, ours, "instr", 0, tables.NODE_COUNTS[0][0], first, goal)
+            kernels.rows.row(name + SUFFIX, ours, "instr", 0, tables.NODE_COUNTS[0][0], first, goal)
 
 
-def measure(counter, kernels, whole, rows):
+def measure(counter, kernels, whole):
     """All that is counted, if valgrind is there."""
     names = {"aes-chain", "script-line", *(kernel.name for kernel in tables.COUNTED),
              *(name for name, _ in tables.NODE_COUNTS)}
     if not counter.is_there() or not any(kernels.wants(name) for name in names):
         return
-    rows.section("instructions, by valgrind's callgrind")
-    count_kernels(counter, kernels, rows)
+    kernels.rows.section("instructions, by valgrind's callgrind")
+    count_kernels(counter, kernels)
     if os.access(whole.program, os.X_OK):
         whole.line(counter)

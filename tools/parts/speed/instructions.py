@@ -6,6 +6,8 @@ import shutil
 import subprocess
 
 COLLECTED = re.compile(r"Collected : (\d+)")
+# A function in a report: its instructions, and its name after the file's and before the program's.
+FUNCTION = re.compile(r"^ *([\d,]+) \( *[\d.]+%\) +[^:\n]*:(.+?)(?: \[[^\]\n]*\])?$", re.MULTILINE)
 
 
 class Counter:
@@ -50,13 +52,20 @@ class Counter:
     def side(self, side):
         return sum(weight * self.work(work) for weight, work in side.parts)
 
-    def inside(self, work, function):
-        """The instructions of a run, and those of the calls of the function whose name ends so, or None."""
+    def functions(self, work, count, is_inclusive=False):
+        """The instructions of a run by function; inclusive: with those of the functions that it calls."""
         profile = os.path.join(self.folder, "profile")
-        whole = self.run(work, work.count, profile)
-        command = ["callgrind_annotate", "--inclusive=yes", "--threshold=100", profile]
+        self.run(work, count, profile)
+        inclusive = "yes" if is_inclusive else "no"
+        command = ["callgrind_annotate", "--inclusive=" + inclusive, "--threshold=100", profile]
         report = subprocess.run(command, stdout=subprocess.PIPE, stderr=subprocess.DEVNULL, text=True,
-                                check=False).stdout
-        counts = [int(found[1].replace(",", "")) for found in
-                  re.finditer(r"^ *([\d,]+) .*%s(?: \[|$)" % re.escape(function), report, re.MULTILINE)]
-        return whole, max(counts) if counts else None
+                                check=True).stdout
+        counts = {}
+        for number, name in FUNCTION.findall(report):
+            counts[name] = counts.get(name, 0) + int(number.replace(",", ""))
+        return counts
+
+    def inside(self, work, function):
+        """The instructions of the calls of a function of the program in a run, or None if it has none."""
+        counts = self.functions(work, work.count, True)
+        return max((count for name, count in counts.items() if name.startswith(function)), default=None)

@@ -71,6 +71,8 @@ class Kernels:
         """
         for many in THREADS:
             name = "turn-%d" % many
+            if not self.wants(name):
+                continue
             rival = self.rivals.mutex(many, tables.TURN_CALLS)
             sides = [alone("", self.work(name, tables.TURN_CALLS))] + ([rival] if rival else [])
             goals = {tables.MUTEX: tables.TURN_GOAL} if many == THREADS[-1] else {}
@@ -81,6 +83,8 @@ class Kernels:
     def shared(self):
         """Calls of threads on one mount: beside the bare call, and by the clock beside one thread's."""
         for family, count, bare in SHARED:
+            if not any(self.wants("%s-%d" % (family, many)) for many in THREADS):
+                continue
             ours = [alone("one-thread" if many == 1 else "", self.work("%s-%d" % (family, many), count))
                     for many in THREADS]
             for many, side in zip(THREADS, ours):
@@ -92,16 +96,17 @@ class Kernels:
 
     def threads(self):
         """All calls in turn."""
-        if not any(self.wants(name) for name in ("turn", "shared", STATUS[0], STATUS_ANEW[0])):
+        names = ["%s-%d" % (family, many) for family in ("turn", *(family for family, *_ in SHARED))
+                 for many in THREADS]
+        if not any(self.wants(name) for name in (*names, STATUS[0], STATUS_ANEW[0])):
             return
         self.rows.section("threads: turn-N by the median of %d runs or more; .clock by the clock"
                           % tables.TURN_RUNS)
         for name, count in (STATUS, STATUS_ANEW):
-            self.print_sides(name, [], sides_in_turn([alone("", self.work(name, count))], self.runs))
-        if self.wants("turn") or self.word in ("turn-1", "turn-2", "turn-4"):
-            self.turns()
-        if self.wants("shared"):
-            self.shared()
+            if self.wants(name):
+                self.print_sides(name, [], sides_in_turn([alone("", self.work(name, count))], self.runs))
+        self.turns()
+        self.shared()
 
     def lengths(self):
         """How the time grows with the length."""
@@ -110,9 +115,8 @@ class Kernels:
         self.table("lengths", kernels)
 
 
-def measure(rivals, rows, runs, word):
+def measure(kernels):
     """All kernels by time."""
-    kernels = Kernels(rivals, rows, runs, word)
     kernels.table("names", tables.NAMES + tables.NAME_GROWTH + tables.NAMES_ALONE)
     kernels.table("files", tables.FILES)
     kernels.table("ciphers", tables.CIPHERS)
@@ -121,4 +125,3 @@ def measure(rivals, rows, runs, word):
     kernels.threads()
     kernels.table("scripts", tables.SCRIPT_KERNELS)
     kernels.lengths()
-    return kernels

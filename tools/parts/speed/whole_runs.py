@@ -75,26 +75,28 @@ class WholeRuns:
                 least, _ = scripts.peak(self.program, SERIAL, few)
                 self.rows.row(name, most - least, "bytes", 0, "log", log, tables.MEMORY_GOAL)
 
+    def line_work(self, lines):
+        """The replay of a script of that many lines."""
+        return self.work(SERIAL, self.path("lines-%d" % lines, scripts.key_statuses(lines)))
+
     def line(self, counter):
         """A line of a script in instructions, beside those of the mount's calls alone."""
         if not self.wants("script-line"):
             return
-        paths = [self.path("lines-%d" % lines, scripts.key_statuses(lines)) for lines in (SCRIPT_LINES, 1)]
-        (whole, inside), (begun, _) = (counter.inside(self.work(SERIAL, path), CALLS) for path in paths)
+        full, none = (self.line_work(lines) for lines in (SCRIPT_LINES, 1))
         calls = SCRIPT_LINES - 1
-        self.rows.row("script-line", (whole - begun) / calls, "instr", 0, "calls-alone",
-                      inside and inside / calls, tables.LINE_GOAL)
+        inside = counter.inside(full, CALLS)
+        self.rows.row("script-line", (counter.work(full) - counter.work(none)) / calls, "instr", 0,
+                      "calls-alone", inside and inside / calls, tables.LINE_GOAL)
 
 
-def measure(program, rivals, rows, runs, word):
+def measure(whole, rivals, runs):
     """Whole runs by time and memory, if the program is there."""
-    whole = WholeRuns(program, rivals.folder, rows, word)
     names = ("fsc-gen", "fsc-unlock", "memory-long-lines", "memory-short-lines",
              *(name for name, *_ in tables.TEXT_RUNS))
-    if os.access(program, os.X_OK) and any(whole.wants(name) for name in names):
-        rows.section("whole runs")
+    if os.access(whole.program, os.X_OK) and any(whole.wants(name) for name in names):
+        whole.rows.section("whole runs")
         whole.generated(runs)
         whole.unlock(rivals, runs)
         whole.texts(runs)
         whole.memory()
-    return whole
