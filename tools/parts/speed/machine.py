@@ -1,6 +1,7 @@
 """What a measure was made on: the machine, the compilers and the rivals."""
 import os
 import platform
+import shutil
 import subprocess
 import time
 
@@ -10,15 +11,21 @@ VERSIONS = (("rt", "version"), ("gcc", "--version"), ("openssl", "version"), ("v
 
 
 def processor():
-    """The processor's name, where the system reports it."""
+    """The processor's name and model, where the system reports them."""
     try:
         with open("/proc/cpuinfo", encoding="utf-8") as lines:
-            for line in lines:
-                if line.startswith("model name"):
-                    return line.split(":", 1)[1].strip()
+            pairs = dict(line.split(":", 1) for line in lines.read().partition("\n\n")[0].splitlines())
     except OSError:
-        pass
-    return platform.processor() or platform.machine()
+        return platform.processor() or platform.machine()
+    known = {name.strip(): value.strip() for name, value in pairs.items()}
+    return "%s, family %s, model %s, stepping %s" % tuple(
+        known.get(name, "?") for name in ("model name", "cpu family", "model", "stepping"))
+
+
+def kit_compiler():
+    """The compiler of the kit, which ours are compiled by."""
+    home = os.path.dirname(os.path.dirname(os.path.realpath(shutil.which("rt") or "")))
+    return version([os.path.join(home, "toolchain", "bin", "clang"), "--version"])
 
 
 def version(words):
@@ -36,6 +43,7 @@ def print_machine(runs):
     print("machine    %s, %d processors, %s" % (processor(), os.cpu_count(), platform.release()))
     for words in VERSIONS:
         print("%-10s %s" % (words[0], version(words) or "not installed"))
+    print("%-10s %s" % ("rt's clang", kit_compiler() or "not found"))
     print("runs       %d, ours and rivals in turn; of each the least processor time, less that of no work"
           % runs)
     print("begun      %s, load %s" % (time.strftime("%d %B %Y %H:%M"), " ".join(
