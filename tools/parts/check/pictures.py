@@ -1,6 +1,7 @@
 """tools/picture: the states that it reads off logs beside the mount's, and inputs that are no logs."""
 import os
 import random
+import signal
 import subprocess
 
 from parts import TOP
@@ -118,11 +119,32 @@ def pictures_of_no_log(tally):
             ("a missing log", (script, "/nowhere"), b""),
             ("a missing script", ("/nowhere", log), b""), ("a folder", (TOP, log), b""),
             ("a log of another script", (os.path.join(TOP, "examples", "open-file.fsc"), log), b""),
-            ("a log in place of a script", (log, log), b"")):
+            ("a log in place of a script", (log, log), b""),
+            ("a reply that is cut", (script, "-"), b"0 0 1000 add-key 32 = added\n"),
+            ("a handle without its number", (script, "-"), b"0 0 1000 open /a = handle\n")):
         for way in ("--text", "--svg"):
             status, text, told = shown(way, *words, given=given)
             is_line = told.startswith("picture: ") and told.count("\n") == 1
             tally.wants(f"{way} of {what} is reported", (status, text) == (1, "") and is_line, told)
+
+
+def unread_output(words):
+    """The exit status and what was reported of a command whose output nobody reads."""
+    reading, writing = os.pipe()
+    os.close(reading)
+    try:
+        ended = subprocess.run(words, stdout=writing, stderr=subprocess.PIPE, timeout=SECONDS, check=False)
+    finally:
+        os.close(writing)
+    return ended.returncode, ended.stderr
+
+
+def pictures_that_nobody_reads(tally):
+    """A picture whose reader is gone ends by the signal, without a message."""
+    script = os.path.join(TOP, "examples", "one-key.fsc")
+    for way in ("--text", "--svg"):
+        ended = unread_output([TOOL, way, script, script[:-4] + ".log"])
+        tally.wants(f"{way} that nobody reads has no message", ended == (-signal.SIGPIPE, b""), str(ended))
 
 
 def causes_of_refusals(tally):
@@ -149,4 +171,5 @@ def legend(tally):
         tally.wants(f"the legend has {state}", is_so, drawn_line)
 
 
-CHECKS = (shadowed_states, pictures_of_two_mounts, pictures_of_no_log, causes_of_refusals, legend)
+CHECKS = (shadowed_states, pictures_of_two_mounts, pictures_of_no_log, pictures_that_nobody_reads,
+          causes_of_refusals, legend)

@@ -1,9 +1,11 @@
 """tools/transcript: the examples, and what it prints of expectations, bad lines, states and Linux."""
 import os
 import re
+import signal
 import subprocess
 
 from parts import TOP
+from parts.check.pictures import unread_output
 from parts.common.running import PROGRAM, SECONDS, SERIAL, run
 
 FOLDER = os.path.join(TOP, "examples", "transcripts")
@@ -45,7 +47,8 @@ IN_LINUX = {
     14: ("refused no-key", "what an open file keeps unlocked"),
     16: ("status incomplete self=0 users=0", "the status after the last close on a key without claims"),
 }
-# lines at fault after `user a 1000`, each with a piece of what is reported
+# lines at fault after `user a 1000`, each with a piece of what is reported; the last ones are found by fsc
+BY_PROGRAM = 5
 FAULTS = [
     ("user a 1001", "names a again"), ("user b 01000", "no number from 0 to 4294967295"),
     ("user b 4294967296", "no number from 0 to 4294967295"), ("user c", "the form: user NAME UID"),
@@ -174,7 +177,7 @@ def bad_lines_of_transcripts(tally):
         tally.wants(f"after {word} the nearest command is printed", is_so, str(told))
     _, _, told = transcript("user a 1\na: link /a /b\n")
     tally.wants("a hard link is refused with the reason", "a file has one name" in told[0], str(told))
-    for line, wanted in FAULTS[:-5]:
+    for line, wanted in FAULTS[:-BY_PROGRAM]:
         status, printed, told = transcript(f"user a 1000\n{line}\n", "--script")
         is_so = (status, printed) == (BAD_LINES, []) and wanted in told[0]
         tally.wants(f"no script is made of {line[:40]!r}", is_so)
@@ -186,6 +189,15 @@ def bad_lines_of_transcripts(tally):
     ended = subprocess.run([TOOL, "/nowhere"], capture_output=True, timeout=SECONDS, check=False)
     tally.wants("a missing file is reported", ended.returncode == USAGE and b"can't be read" in ended.stderr
                 and b"Traceback" not in ended.stderr)
+
+
+def transcripts_that_nobody_reads(tally):
+    """A transcript whose reader is gone ends by the signal, without a message."""
+    name = os.path.join(FOLDER, "a_changed_passphrase.txt")
+    for words in ((), ("--tap",), ("--script",)):
+        ended = unread_output([TOOL, "--program", PROGRAM, *words, name])
+        tally.wants(f"a transcript {words} that nobody reads has no message",
+                    ended == (-signal.SIGPIPE, b""), str(ended))
 
 
 def keys_by_policies(tally):
@@ -270,5 +282,5 @@ def reports_without_expectations(tally):
 
 
 CHECKS = (examples_of_transcripts, example_of_help, scripts_of_transcripts, differing_answers,
-          bad_lines_of_transcripts, keys_by_policies, reports_without_expectations, states_of_transcripts,
-          linux_beside_transcripts)
+          bad_lines_of_transcripts, transcripts_that_nobody_reads, keys_by_policies,
+          reports_without_expectations, states_of_transcripts, linux_beside_transcripts)

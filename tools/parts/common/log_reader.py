@@ -8,8 +8,25 @@ from typing import Optional
 
 from parts.common.command_calls import calls_of, is_session
 
-LINE = re.compile(r"(\d+) (\d+) (\d+) (\S+(?: \S+)*) = (\S.*)")
-NOTE = re.compile(r"note (\d+) (\d+) ([a-z-]+)")
+N, BYTES, ID = r"\d{1,10}", r"(?:-|(?:[0-9a-f]{2})+)", r"[0-9a-f]{32}"
+PATH, WORD = r"/\S*", r"\S+"
+LINE = re.compile(rf"({N}) ({N}) ({N}) (\S+(?: \S+)*) = (\S.*)")
+NOTE = re.compile(rf"note ({N}) ({N}) ([a-z-]+)")
+REFUSED = re.compile(rf"refused [a-z-]+(?: {N})?")
+REMOVED = "removed others=[01] busy=[01]"
+# the arguments of each call, and its reply unless it is refused
+FORMS = {
+    "add-key": (N, f"added {ID}"), "remove-key": (ID, REMOVED), "remove-key-all": (ID, REMOVED),
+    "key-status": (ID, f"status (?:absent|present|incomplete) self=[01] users={N}"),
+    "set-policy": (f"{PATH} {BYTES}", "ok"), "get-policy": (PATH, f"policy {BYTES}"),
+    "mkdir": (PATH, "ok"), "create": (PATH, "ok"), "unlink": (PATH, "ok"), "rmdir": (PATH, "ok"),
+    "symlink": (f"{PATH} {WORD}", "ok"), "readlink": (PATH, f"target {WORD}"),
+    "rename": (f"{PATH} {PATH}", "ok"), "list": (f"{PATH} {N}", f"names {N} more=[01](?: {WORD})*"),
+    "stat": (PATH, f"stat (?:dir|file|link) {N} {N} enc=[01] key=[01]"), "open": (PATH, f"handle {N}"),
+    "close": (N, "ok"), "read": (f"{N} {N} {N}", f"data {BYTES}"), "write": (f"{N} {N} {N}", "ok"),
+    "drop-caches": ("", "ok"), "meta-get": (WORD, f"record {N} {BYTES}"),
+    "meta-put": (f"{WORD} {N} {N}", f"stored {N}"),
+}
 PAUSE = "pause"
 ENDED_BY_REFUSAL = ("refused", "conflict", "no-memory")
 
@@ -118,11 +135,20 @@ def read_log(text):
             mount = int(line[-1])
         elif note:
             log.notes[int(note[1]), int(note[2])] = note[3]
-        elif entry:
+        elif entry and is_entry(entry[4], entry[5]):
             log.entries.append(Entry(mount, int(entry[1]), int(entry[2]), entry[3], entry[4], entry[5]))
         else:
             raise LogFault(f"line {number} of the log is neither an entry nor a note: {line[:60]!r}")
     return log
+
+
+def is_entry(call, reply):
+    """Whether the call is one of a mount, and the reply one that it may have."""
+    verb, _, arguments = call.partition(" ")
+    form = FORMS.get(verb)
+    if form is None or not re.fullmatch(form[0], arguments):
+        return False
+    return bool(REFUSED.fullmatch(reply) or re.fullmatch(form[1], reply))
 
 
 def is_link(entry):
