@@ -48,7 +48,7 @@ IN_LINUX = {
     16: ("status incomplete self=0 users=0", "the status after the last close on a key without claims"),
 }
 # lines at fault after `user a 1000`, each with a piece of what is reported; the last ones are found by fsc
-BY_PROGRAM = 5
+BY_PROGRAM = 7
 FAULTS = [
     ("user a 1001", "names a again"), ("user b 01000", "no number from 0 to 4294967295"),
     ("user b 4294967296", "no number from 0 to 4294967295"), ("user c", "the form: user NAME UID"),
@@ -62,7 +62,8 @@ FAULTS = [
     ("a: mkdri /a", '"mkdri" is no command'), ("a: read 0 0", "read HANDLE OFFSET LENGTH"),
     ("a: unlock d p pass:x y", "unlock POLICY PROTECTOR SECRET"),
     ("a: add-key text:" + "x" * 129, "add-key HEX"),
-    ("a: close x", "close HANDLE"),
+    ("a: close x", "close HANDLE"), ("a: write 0 0 hello", "; in a transcript also text:WORD"),
+    ("a: remove-key docs", "; in a transcript also id:POLICY or raw:text:WORD"),
 ]
 # commands that aren't there, with what is written in their place
 OTHER_COMMANDS = {"mkdri": "mkdir PATH", "ls": "list PATH [START]", "mv": "rename PATH PATH"}

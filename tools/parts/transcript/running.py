@@ -9,7 +9,7 @@ from typing import Optional
 
 from parts import TOP
 from parts.common.log_reader import LogFault, Made, place_commands, read_log
-from parts.transcript.reading import BadLine, Step
+from parts.transcript.reading import BYTES_AT, KEY_AT, BadLine, Step
 
 PROVED = os.path.join(TOP, "crates", "fscrypt_cli", "out", "fscrypt_cli")
 UNPROVED = os.path.join(TOP, "crates", "fscrypt_cli", "out", "unproved", "fscrypt_cli")
@@ -17,6 +17,7 @@ RELEASED = os.path.join(TOP, "fsc")
 BAD_LINE = 3
 FORM_LINE = re.compile(r"^    ([a-z-]+(?: [\[A-Z\]]+)*)(?: |$)", re.MULTILINE)
 FAULT_LINE = re.compile(r"^fsc: line (\d+): (.*)$", re.MULTILINE)
+BAD_WORD = re.compile(r"has a word, number (\d+) after it")
 # what a shell calls a command
 SHELL_NAMES = {"ls": "list", "mv": "rename", "rm": "unlink", "touch": "create", "cat": "read"}
 
@@ -126,6 +127,17 @@ def nearest(verb, forms):
     return SHELL_NAMES.get(verb) or next(iter(difflib.get_close_matches(verb, forms, 1)), "")
 
 
+def also_taken(step, why):
+    """What a transcript takes besides, if the word at fault is to be a key or bytes in hexadecimal."""
+    found = BAD_WORD.search(why)
+    at = int(found[1]) if found else 0
+    if at and at == KEY_AT.get(step.verb):
+        return "; in a transcript also id:POLICY or raw:text:WORD"
+    if at and at == BYTES_AT.get(step.verb) and not step.shown.split(" ")[at].startswith("text:"):
+        return "; in a transcript also text:WORD"
+    return ""
+
+
 def bad_commands(program, script):
     """The steps that fsc refuses, each as a bad line. A pause replaces it, and the rest is tried again."""
     found, forms = [], None
@@ -143,7 +155,7 @@ def bad_commands(program, script):
             form, near = forms.get(step.verb), forms.get(nearest(step.verb, forms))
             told_form = f"; the form: {form}" if form and not why.endswith(form) else ""
             told_near = f"; the nearest: {near}" if near and not form else ""
-            found.append(BadLine(step.line, why + told_form + told_near))
+            found.append(BadLine(step.line, why + told_form + told_near + also_taken(step, why)))
             bad.append(step)
         script = script.without(bad)
 
