@@ -62,7 +62,7 @@ class Function:
 
     def has_proof(self, path):
         """Whether this file, below proofs/, is of its proof: a method's is in the folder of its type,
-        which may are in another module than the method; another function's in that of its module; and
+        which may be in another module than the method; another function's in that of its module; and
         after it its own name, or that of a ring of functions."""
         folders = path.split("/")[:-1]
         if self.of_type:
