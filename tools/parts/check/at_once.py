@@ -1,5 +1,7 @@
 """Threads of a real kernel: stored histories have orders that fsc check certifies, and bad scripts are
 refused at once."""
+import contextlib
+import io
 import os
 import re
 import subprocess
@@ -7,6 +9,7 @@ import tempfile
 
 from parts import PARTS, TOP
 from parts.common.running import PROGRAM
+from parts.linux.at_once.run import run_at_once
 
 DATA = os.path.join(PARTS, "linux", "data", "at_once")
 TIMES = 4
@@ -45,6 +48,10 @@ BAD = (
     ),
     ("the root removed", "caller 0\n# together\nrmdir /\n", "changes the root"),
     ("an unknown word", "caller 0\n# together\nfrobnicate /\n", "no call of the mount"),
+    ("a carriage return", "caller 0\r\n# together\r\nstat /\r\n", "has a carriage return"),
+    ("a user beyond the last", "caller 99999999999\n# together\nstat /\n", "no number from 0 to 4294967295"),
+    ("a handle beyond the last", "caller 0\n# together\nclose 4294967296\n", "no number from 0 to"),
+    ("a last line without its end", "caller 0\n# together\nstat /", "not ended by a line feed"),
 )
 
 
@@ -161,7 +168,7 @@ def bad_scripts(tally):
     with tempfile.TemporaryDirectory() as folder:
         names = [os.path.join(folder, f"bad-{at}.fsc") for at in range(len(BAD))]
         for name, (_, text, _) in zip(names, BAD):
-            with open(name, "w", encoding="utf-8") as file:
+            with open(name, "w", encoding="utf-8", newline="") as file:
                 file.write(text)
         kernel = os.path.join(folder, "none")
         command = [os.path.join(TOP, "tools", "linux"), "--kernel", kernel, "--threads", "0", "--program",
@@ -174,4 +181,22 @@ def bad_scripts(tally):
         tally.wants(f"{what} is refused", well, str(told))
 
 
-CHECKS = (stored_histories, by_hand, planted_replies, bad_scripts)
+def histories_that_lack(tally):
+    """Fewer histories than were asked for are a fault, also if the machine ended well."""
+    def machine(_, calls, answers):
+        with open(calls, encoding="utf-8") as file:
+            asked.append(file.read())
+        with open(answers, "w", encoding="utf-8") as file:
+            file.write("END\n")
+        return 0
+
+    asked, printed = [], io.StringIO()
+    with tempfile.TemporaryDirectory() as folder, contextlib.redirect_stdout(printed):
+        text = "caller 0\n# together\nstat /\n"
+        status = run_at_once([("one", text)], 3, PROGRAM, folder, machine)
+    told = printed.getvalue()
+    tally.wants("histories that were not answered are reported",
+                (status, len(asked)) == (1, 1) and "fault: 0 histories of 6 were answered\n" in told, told)
+
+
+CHECKS = (stored_histories, by_hand, planted_replies, bad_scripts, histories_that_lack)

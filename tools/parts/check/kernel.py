@@ -6,8 +6,8 @@ import re
 import subprocess
 import tempfile
 
-
-from parts import PARTS
+from parts import PARTS, TOP
+from parts.common.running import PROGRAM
 from parts.linux.comparison import same, scripts_of, steps
 from parts.linux.kinds import kind_of
 from parts.linux.known import KNOWN, known_answer
@@ -106,4 +106,28 @@ def kernels_that_lack(tally):
                         found == (2, [wanted]), str(found))
 
 
-CHECKS = (stored_answers, known_answers, kernels_that_lack)
+def scripts_that_no_kernel_gets(tally):
+    """A script that fsc doesn't take, and a file that is no text, are refused before a kernel is booted."""
+    with tempfile.TemporaryDirectory() as folder:
+        for what, given, wanted in (
+                ("a bad line", b"caller 0\n# together\nread 0 0 1000000000000\n", "line 3"),
+                ("a carriage return", b"caller 0\r\n# together\r\nstat /\r\n",
+                 'line 1: "caller" has a carriage return'),
+                ("no end", b"caller 0\n# together\nstat /",
+                 "line 3: the last line is not ended by a line feed"),
+                ("bytes that are no text", b"caller 0\n# \xff\n", "is no text in UTF-8"),
+                ("no file", None, "can't be read: No such file or directory")):
+            name = os.path.join(folder, f"{what.replace(' ', '-')}.fsc")
+            if given is not None:
+                with open(name, "wb") as file:
+                    file.write(given)
+            for words in ((), ("--threads", "0")):
+                command = [os.path.join(TOP, "tools", "linux"), "--kernel", os.path.join(folder, "none"),
+                           *words, "--program", PROGRAM, name]
+                ended = subprocess.run(command, check=False, capture_output=True)
+                told = ended.stderr.decode()
+                tally.wants(f"tools/linux {words} with {what} is refused", ended.returncode == 2
+                            and not ended.stdout and told.startswith("linux: ") and wanted in told, told)
+
+
+CHECKS = (stored_answers, known_answers, kernels_that_lack, scripts_that_no_kernel_gets)

@@ -7,6 +7,7 @@ from parts.linux.at_once.draws import Draws
 from parts.linux.at_once.faults import faults
 from parts.linux.at_once.histories import read_answers
 from parts.linux.at_once.report import Tally
+from parts.linux.given import faults_of_grammar
 
 MODES = ("free", "rounds")
 
@@ -17,18 +18,13 @@ def drawn(count):
     return [(draw.name, draw.script()) for draw in draws]
 
 
-def given(names):
-    """The names and texts of the scripts in files."""
-    found = []
-    for name in names:
-        with open(name, encoding="utf-8") as file:
-            found.append((os.path.basename(name).removesuffix(".fsc"), file.read()))
-    return found
-
-
-def checked(texts):
+def checked(texts, program):
     """The scripts of names and texts; none where one has a fault, each of which is printed."""
-    wrong = [fault for name, text in texts for fault in faults(name, text, AtOnce)]
+    wrong = [
+        fault
+        for name, text in texts
+        for fault in faults(name, text, AtOnce) or faults_of_grammar(program, name, text)
+    ]
     names = [name for name, _ in texts]
     wrong += [
         f"{name}: two scripts have this name"
@@ -42,7 +38,7 @@ def checked(texts):
 def run_at_once(texts, repeats, program, folder, machine):
     """Has `machine` make the calls of scripts, by the files of calls and answers, and reports; returns the
     exit status."""
-    scripts = checked(texts)
+    scripts = checked(texts, program)
     if scripts is None:
         return 2
     calls, answers, orders = (os.path.join(folder, name) for name in ("calls.txt", "answers.txt", "orders"))
@@ -58,10 +54,10 @@ def run_at_once(texts, repeats, program, folder, machine):
     if status not in (0, 3):
         return status
     histories, wrong = read_answers(answers, scripts)
-    if status:
-        wrong.append(
-            f"the machine ended early: {len(histories)} histories of {len(scripts) * len(MODES) * repeats}"
-        )
+    wanted = len(scripts) * len(MODES) * repeats
+    if status or len(histories) != wanted:
+        early = "the machine ended early: " if status else ""
+        wrong.append(f"{early}{len(histories)} histories of {wanted} were answered")
     os.makedirs(orders, exist_ok=True)
     tally = Tally(program, orders)
     for history in histories:
