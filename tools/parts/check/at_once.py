@@ -119,6 +119,12 @@ def stored_histories(tally):
     for kind, count in seen.items():
         tally.wants(f"a stored history shows {kind}", count > 0 or kind == NOT_STORED)
     tally.wants("there are nine kinds", len(seen) == 9, str(seen))
+    without, refused = (
+        sum(int(line.split()[0]) for line in lines if text in line)
+        for text in ("  have no order, with a kind", "  smallest cores of which fsc check refuses every")
+    )
+    tally.wants("each history without an order has a core that fsc check refuses", refused >= without > 0,
+                str((without, refused)))
     with open(answers, encoding="utf-8") as file:
         text = file.read()
     with tempfile.NamedTemporaryFile("w", encoding="utf-8") as file:

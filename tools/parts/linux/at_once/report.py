@@ -19,7 +19,7 @@ class Tally:
         self.not_as_begun = self.not_as_ended = self.after_removal = 0
         self.levels, self.seen, self.kinds, self.rows = (collections.Counter() for _ in range(4))
         self.cores, self.unexplained = {}, []
-        self.cores_refused = self.cores_found = 0
+        self.cores_refused = self.cores_unreadable = 0
 
     def take(self, history):
         """A history."""
@@ -55,8 +55,12 @@ class Tally:
         core, found, runs = confirmed_core(self.program, verdict.history)
         if found == "found":
             verdict.reason = "fsc check certifies an order of the core, and the search found none"
+        elif found == "undecided" and verdict.level == Level.APART:
+            verdict.reason = f"the core has more orders than fsc check was asked for in {runs} runs"
+        if verdict.reason:
             self.unexplained.append(verdict)
         self.cores_refused += found == "none"
+        self.cores_unreadable += found == "unreadable"
         for kind in new:
             self.cores[kind] = core, found, runs, verdict.history.name
 
@@ -100,6 +104,7 @@ class Tally:
             print(f"{count:7}  lines: {row}" + (f" ({PAGE}:{known[row]})" if row in known else ""))
         print(f"{self.after_removal:7}  calls after a removal with busy=0 and before an adding saw nothing")
         print(f"{self.cores_refused:7}  smallest cores of which fsc check refuses every order")
+        print(f"{self.cores_unreadable:7}  smallest cores that list a locked directory: not asked")
         for fault in faults:
             print(f"fault: {fault}")
         self.print_unexplained()
