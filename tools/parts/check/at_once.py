@@ -187,22 +187,32 @@ def bad_scripts(tally):
         tally.wants(f"{what} is refused", well, str(told))
 
 
-def histories_that_lack(tally):
-    """Fewer histories than were asked for are a fault, also if the machine ended well."""
+def run_of_six(status, printed):
+    """The exit status and the output of six histories, of a machine that prints this and ends so."""
     def machine(_, calls, answers):
         with open(calls, encoding="utf-8") as file:
             asked.append(file.read())
         with open(answers, "w", encoding="utf-8") as file:
-            file.write("END\n")
-        return 0
+            file.write(printed)
+        return status
 
-    asked, printed = [], io.StringIO()
-    with tempfile.TemporaryDirectory() as folder, contextlib.redirect_stdout(printed):
+    asked, told = [], io.StringIO()
+    with tempfile.TemporaryDirectory() as folder, contextlib.redirect_stdout(told):
         text = "caller 0\n# together\nstat /\n"
-        status = run_at_once([("one", text)], 3, PROGRAM, folder, machine)
-    told = printed.getvalue()
-    tally.wants("histories that were not answered are reported",
-                (status, len(asked)) == (1, 1) and "fault: 0 histories of 6 were answered\n" in told, told)
+        ended = run_at_once([("one", text)], 3, PROGRAM, folder, machine)
+    return ended, told.getvalue(), asked
+
+
+def histories_that_lack(tally):
+    """Fewer histories than were asked for are a fault, whether the machine ended well or early."""
+    one = "R\tone-free\t0\n0\t0\t0\t1\t0\t0\tstat dir i2 0 enc=0 key=?\n"
+    for status, printed, wanted in (
+            (0, "END\n", "fault: 0 histories of 6 were answered\n"),
+            (0, one + "END\n", "fault: 1 histories of 6 were answered\n"),
+            (3, one + "R\tone-free\t1\n", "fault: the machine ended early: 1 histories of 6 were ")):
+        ended, told, asked = run_of_six(status, printed)
+        tally.wants(f"a machine that ends with {status} after {printed[-6:]!r} is reported",
+                    (ended, len(asked)) == (1, 1) and wanted in told, told)
 
 
 CHECKS = (stored_histories, by_hand, planted_replies, bad_scripts, histories_that_lack)
