@@ -48,7 +48,7 @@ IN_LINUX = {
     16: ("status incomplete self=0 users=0", "the status after the last close on a key without claims"),
 }
 # lines at fault after `user a 1000`, each with a piece of what is reported; the last ones are found by fsc
-BY_PROGRAM = 7
+BY_PROGRAM = 9
 FAULTS = [
     ("user a 1001", "names a again"), ("user b 01000", "no number from 0 to 4294967295"),
     ("user b 4294967296", "no number from 0 to 4294967295"), ("user c", "the form: user NAME UID"),
@@ -57,13 +57,14 @@ FAULTS = [
     ("a:\tstat /", "has a tab"),
     ("a: stat /\r", "has a carriage return"), ("a: pause", '"pause" is no command of a transcript'),
     ("a: caller 5", '"caller" is no command of a transcript'),
-    ("a: # none", "a comment is a line of its own"),
+    ("a: # none", "a comment is a line of its own"), ("a: stat / = ok = ok", "has a second ="),
     ("a: write 0 0 text:50%", "%XX is a byte"), ("a: add-key text:x = added text:%", "%XX is a byte"),
     ("a: mkdri /a", '"mkdri" is no command'), ("a: read 0 0", "read HANDLE OFFSET LENGTH"),
     ("a: unlock d p pass:x y", "unlock POLICY PROTECTOR SECRET"),
     ("a: add-key text:" + "x" * 129, "add-key HEX"),
     ("a: close x", "close HANDLE"), ("a: write 0 0 hello", "; in a transcript also text:WORD"),
     ("a: remove-key docs", "; in a transcript also id:POLICY or raw:text:WORD"),
+    ("a: stat / =stat", "; spaces part = from"), ("a: mkdir /a= ok", "; spaces part = from"),
 ]
 # commands that aren't there, with what is written in their place
 OTHER_COMMANDS = {"mkdri": "mkdir PATH", "ls": "list PATH [START]", "mv": "rename PATH PATH"}
@@ -176,6 +177,8 @@ def bad_lines_of_transcripts(tally):
         _, _, told = transcript(f"user a 1\na: {word} /a\n")
         is_so = f"the nearest: {form}" in told[0]
         tally.wants(f"after {word} the nearest command is printed", is_so, str(told))
+    _, _, told = transcript("\ufeffuser a 1\n")
+    tally.wants("a byte order mark is reported", "begins with a byte order mark" in told[0], str(told))
     _, _, told = transcript("user a 1\na: link /a /b\n")
     tally.wants("a hard link is refused with the reason", "a file has one name" in told[0], str(told))
     for line, wanted in FAULTS[:-BY_PROGRAM]:

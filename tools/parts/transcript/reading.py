@@ -11,6 +11,7 @@ UID = re.compile(r"0|[1-9][0-9]*")
 WORD = re.compile(r"(?:[!-$&-~]|%[0-9A-Fa-f]{2})+")
 LINE_FORM = "NAME: COMMAND [= EXPECTED]"
 USER_FORM = "user NAME UID"
+MARK = "\ufeff"
 # the word of a command that is bytes in hexadecimal, counted from 1 after the name
 BYTES_AT = {"add-key": 1, "write": 3, "meta-put": 3, "set-policy-bytes": 2}
 # the word that names a key, counted so too; `id:POLICY` is the identifier of the policy's key
@@ -145,6 +146,8 @@ def read_step(transcript, number, words):
         words, expected = words[:at], words[at + 1:]
         if not expected:
             raise Fault(f"has nothing after =; the form: {LINE_FORM}")
+        if "=" in expected:
+            raise Fault(f"has a second =; the form: {LINE_FORM}; the word = itself is %3D")
     if not words:
         raise Fault(f"has no command; the form: {LINE_FORM}")
     if words[0].startswith("#"):
@@ -168,8 +171,10 @@ def read_transcript(text):
         if not words or words[0].startswith("#"):
             continue
         try:
+            if number == 1 and line.startswith(MARK):
+                raise Fault("begins with a byte order mark; save the transcript without it")
             if "\r" in line:
-                raise Fault("has a carriage return")
+                raise Fault("has a carriage return; save the transcript with line feeds alone")
             if "\t" in line:
                 raise Fault("has a tab, where a space parts two words")
             if words[0] == "user":

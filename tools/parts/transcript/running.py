@@ -128,7 +128,11 @@ def nearest(verb, forms):
 
 
 def also_taken(step, why):
-    """What a transcript takes besides, if the word at fault is to be a key or bytes in hexadecimal."""
+    """What a transcript takes besides, if the word at fault is to be a key or bytes in hexadecimal, or if
+    there are too many words, one of them with a = that was to part them."""
+    words = step.shown.split(" ")[1:]
+    if "has too many words" in why and any(word.startswith("=") or word.endswith("=") for word in words):
+        return "; spaces part = from what is before and after it"
     found = BAD_WORD.search(why)
     at = int(found[1]) if found else 0
     if at and at == KEY_AT.get(step.verb):
