@@ -24,20 +24,20 @@ pub(crate) struct WordFault {
 
 const NO_WORDS: &str = "give a form: fsc replay < SCRIPT runs a script; fsc --help lists the forms";
 
-const HELP_TELLS: &str = "--help lists the forms and commands";
+const HELP_REMEDY: &str = "--help lists the forms and commands";
 
-const VERSION_TELLS: &str = "--version prints the version";
+const VERSION_REMEDY: &str = "--version prints the version";
 
 const REPLAY_FIRST: &str = "replay comes first: fsc replay --serial --seed HEX64";
 
 // First arguments that are no form, and the remedy for each.
 static NO_FORMS: [(&str, &str); 9] = [
-    ("-h", HELP_TELLS),
-    ("-?", HELP_TELLS),
-    ("help", HELP_TELLS),
-    ("-V", VERSION_TELLS),
-    ("-v", VERSION_TELLS),
-    ("version", VERSION_TELLS),
+    ("-h", HELP_REMEDY),
+    ("-?", HELP_REMEDY),
+    ("help", HELP_REMEDY),
+    ("-V", VERSION_REMEDY),
+    ("-v", VERSION_REMEDY),
+    ("version", VERSION_REMEDY),
     ("--serial", REPLAY_FIRST),
     ("--seed", REPLAY_FIRST),
     (

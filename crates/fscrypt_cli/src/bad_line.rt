@@ -19,7 +19,7 @@ const MAX_NUMBERED_BYTES: usize = 4_294_967_295;
 const LISTED: &str = "fsc --help lists the commands";
 
 // It is printed for a long log after a script too, so it contains both remedies.
-const NO_ROOM: &str =
+const NO_MEMORY_FOR_FAULT: &str =
     "there was no memory to find why it is at fault; try the script alone, or with more memory free";
 
 const COMMENT: &str = "a comment is a line of its own";
@@ -42,12 +42,12 @@ struct ReportedLine {
 /// Prints up to `most` lines at fault of a text on standard error; `line` is the number of the first. If
 /// the text wasn't stored, or there is no memory to read it, only that number is known.
 pub(crate) fn show_lines(rt: &HostRuntime, text: Option<&[u8]>, line: u32, most: usize) {
-    let is_told = match text {
+    let is_printed = match text {
         Some(text) => print_lines(rt, text, most),
         None => false,
     };
-    if !is_told {
-        let _ = eprintln!(rt; "fsc: line {line}: {NO_ROOM}");
+    if !is_printed {
+        let _ = eprintln!(rt; "fsc: line {line}: {NO_MEMORY_FOR_FAULT}");
     }
 }
 

@@ -37,11 +37,8 @@ pub(crate) static GROUPS: [Group; 7] = [
         title: "Keys",
         lines: &[
             ("add-key HEX", "claim the key of these 32 to 64 bytes"),
-            ("remove-key KEYREF", "give up the claim on the key"),
-            (
-                "remove-key-all KEYREF",
-                "take away every user's claim on it",
-            ),
+            ("remove-key KEYREF", "remove the claim on the key"),
+            ("remove-key-all KEYREF", "remove every user's claim on it"),
             ("key-status KEYREF", "whether the key is there"),
         ],
     },
@@ -111,24 +108,18 @@ pub(crate) static GROUPS: [Group; 7] = [
                 "protector-change PROTECTOR SECRET NEWSECRET",
                 "give it another secret",
             ),
-            (
-                "protector-link PROTECTOR",
-                "say that it is on another mount",
-            ),
+            ("protector-link PROTECTOR", "link to it on another mount"),
             (
                 "policy-new POLICY PROTECTOR SECRET [PAD UNIT]",
                 "make a policy",
             ),
             (
                 "policy-add POLICY PROTECTOR SECRET ADDED SECRET",
-                "let ADDED open it too",
+                "add the protector ADDED",
             ),
-            (
-                "policy-drop POLICY PROTECTOR",
-                "let a protector open it no longer",
-            ),
+            ("policy-drop POLICY PROTECTOR", "remove a protector"),
             ("unlock POLICY PROTECTOR SECRET", "add a policy's key"),
-            ("lock POLICY", "give up the claim on a policy's key"),
+            ("lock POLICY", "remove the claim on a policy's key"),
             ("status POLICY", "the state of a policy's key"),
             (
                 "encrypt PATH POLICY [PAD [UNIT]]",

@@ -54,7 +54,7 @@ that begins with # is a comment.
 // The column of a command's meaning, if its words leave space for it.
 const WIDTH_OF_FORMS: usize = 34;
 
-const BEHIND_COMMANDS: &str = "
+const AFTER_COMMANDS: &str = "
 HANDLE, OFFSET, LENGTH, BYTE, START and VERSION are decimal numbers. HEX is two
 hexadecimal digits a byte. KEYREF is `id:` and 32 digits, or `raw:` and 64 to
 128 of them, an even number. A key has 32 to 64 bytes; add-key takes a word of 1
@@ -103,7 +103,7 @@ fn push_help(text: &mut String) -> Result<(), AllocError> {
     for group in GROUPS.iter() {
         push_group(text, group.title, group.lines)?;
     }
-    text.push_str(BEHIND_COMMANDS)
+    text.push_str(AFTER_COMMANDS)
 }
 
 // Appends the group's title, and the words of each of its commands with what it does.

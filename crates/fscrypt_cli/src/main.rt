@@ -43,7 +43,7 @@ const NO_MEMORY: Ended = Ended {
     is_closed: false,
 };
 
-const NO_READER: &str = "nobody reads the output any more; what was read is a beginning of it";
+const NO_READER: &str = "the output has no reader any more; what was read is a beginning of it";
 
 // Inlined, so that all that a run wipes is in one function of the machine code, which tools can name.
 #[inline(always)]
@@ -60,7 +60,7 @@ fn main(rt: HostRuntime) -> ExitCode {
     };
     match words.as_slice() {
         [word] if word.as_str() == "--help" => print_help(&rt),
-        [word] if word.as_str() == "--version" => tell(&rt, VERSION),
+        [word] if word.as_str() == "--version" => print_text(&rt, VERSION),
         _ => run(&rt, &rt, &mut words),
     }
 }
@@ -81,13 +81,13 @@ fn words_of(rt: &HostRuntime) -> Result<Vec<String>, Status> {
 // Prints the help text.
 fn print_help(rt: &HostRuntime) -> ExitCode {
     match help_text(rt.alloc()) {
-        Ok(text) => tell(rt, text.as_str()),
+        Ok(text) => print_text(rt, text.as_str()),
         Err(_) => end(rt, Asked::Other, NO_MEMORY, None),
     }
 }
 
 // Prints a text on standard output.
-fn tell(rt: &HostRuntime, text: &str) -> ExitCode {
+fn print_text(rt: &HostRuntime, text: &str) -> ExitCode {
     let mut sink = CausedSink::over(rt.stdout());
     let status = match write_all(&mut sink, text.as_bytes()) {
         Ok(()) => Status::Done,

@@ -122,7 +122,7 @@ def faults(tally):
     status, _, told = run(SERIAL, ONE_KEY, stdout=pipe)
     os.close(pipe)
     tally.wants("writing to a closed pipe ends with 5",
-                status == 5 and told.startswith(b"fsc: write fault\nfsc: nobody reads"))
+                status == 5 and told.startswith(b"fsc: write fault\nfsc: the output has no reader"))
 
 
 CHECKS = (statuses, progress, waiting, faults)
