@@ -5,7 +5,7 @@ ghost use Rattle.script_lang.specs.Spelled.{IsSpelled};
 use crate::one_mount::OneMount;
 use argon_kdf::PlainStretch;
 use item_list::Bytes;
-use log_check::{Due, expected_after};
+use log_check::{Continuation, expected_after};
 use mount_shared::Mount;
 use script_lang::Script;
 use std::alloc::{AllocError, Global};
@@ -37,7 +37,7 @@ pub(crate) fn difference_at(
     let mount = Mount::new(alloc).ok()?;
     let mut one = OneMount { mount };
     match expected_after(alloc, &PlainStretch, script, seed, log, place, &mut one) {
-        Ok(Some(due)) => difference_of(alloc, log, place, due).ok(),
+        Ok(Some(next)) => difference_of(alloc, log, place, next).ok(),
         _ => None,
     }
 }
@@ -47,13 +47,17 @@ fn difference_of(
     alloc: Global,
     log: &[u8],
     place: u64,
-    due: Due,
+    next: Continuation,
 ) -> Result<Difference, AllocError> {
     let rest = after_lines(log, place);
     let is_last = rest.is_empty() || rest.starts_with(b"note ");
-    let (in_log, in_run, command) = match &due {
-        Due::Line { line, command } => (first_line(rest), first_line(line.as_slice()), *command),
-        Due::Notes(notes) => {
+    let (in_log, in_run, command) = match &next {
+        Continuation::Line { line, command } => (
+            first_line(rest),
+            first_line(line.as_slice()),
+            *command,
+        ),
+        Continuation::Notes(notes) => {
             let (in_log, in_run) = first_apart(rest, notes.as_slice());
             (in_log, in_run, None)
         }

@@ -20,7 +20,7 @@ use Rattle.fsc_commands.specs.Commands.{command_steps}
 use Rattle.fsc_session.specs.Session.{IsRunSoFar}
 use Rattle.next_calls.specs.Callers.{CallerView, call_of, steps_of}
 use Rattle.next_calls.specs.EntriesSoFar.{IsCallerAfter}
-use Rattle.log_check.specs.declared.expected.Due.{Due}
+use Rattle.log_check.specs.declared.expected.Continuation.{Continuation}
 use Rattle.log_check.specs.Expected.{IsExpected, IsExpectedLine, ComesOf, AreExpectedNotes}
 use Rattle.log_check.specs.ExpectedCallers.{IsCallAt, IsWaiting, IsAnsweredLine, IsExpectedHere}
 use Rattle.log_check.specs.Reading.{IsCaller, CallersFollow}
@@ -110,7 +110,7 @@ module _ {M : Type 0} (reached_by : History → M → Type 0) where
 
   -- so of what was read from the start on
   pub is_due : (seed : List ℕ) (script : List Section) (text : List ℕ) (place wanted : ℕ) (rest : List ℕ) (callers : List CallerView) (mount : M)
-      (due : Due) → place ≡ wanted → Stands false reached_by seed script text place rest callers mount → IsExpectedHere reached_by callers place rest mount due
-      → IsExpected seed script text wanted due
-  is_due seed script text place wanted rest callers mount due same is_after here =
-      subst (λ (n : ℕ). IsExpected seed script text n due) same (here seed script text is_after.0 is_after.1 is_after.2)
+      (next : Continuation) → place ≡ wanted → Stands false reached_by seed script text place rest callers mount → IsExpectedHere reached_by callers place rest mount next
+      → IsExpected seed script text wanted next
+  is_due seed script text place wanted rest callers mount next same is_after here =
+      subst (λ (n : ℕ). IsExpected seed script text n next) same (here seed script text is_after.0 is_after.1 is_after.2)

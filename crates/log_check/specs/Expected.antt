@@ -17,8 +17,8 @@ use Rattle.fsc_commands.specs.Commands.{command_steps}
 use Rattle.fsc_session.specs.Session.{IsRunSoFar}
 use Rattle.fsc_session.specs.ScriptRun.{IsRunOf, notes_of}
 use Rattle.fsc_session.specs.Meaning.{Follows}
-use Rattle.log_check.specs.declared.expected.Due.{Due}
-use Rattle.log_check.specs.declared.expected.Due.TheVariants as due
+use Rattle.log_check.specs.declared.expected.Continuation.{Continuation}
+use Rattle.log_check.specs.declared.expected.Continuation.TheVariants as continuation
 use Rattle.log_check.specs.Certificate.{BeginsWith}
 
 -- the entry's call is one of the command on this line of the script: the caller's entries are a run of the
@@ -68,6 +68,8 @@ pub record AreExpectedNotes (seed : List ℕ) (script : List Section) (text : Li
   pub lawful : IsLawful history
   pub text_is : notes ≡ notes_text (notes_of seed script history)
 
-abbrev pub IsExpected : List ℕ → List Section → List ℕ → ℕ → Due → Type 0
-IsExpected seed script text place (due.Line line command) = IsExpectedLine seed script text place line command
-IsExpected seed script text place (due.Notes notes) = AreExpectedNotes seed script text place notes
+abbrev pub IsExpected : List ℕ → List Section → List ℕ → ℕ → Continuation → Type 0
+IsExpected seed script text place (continuation.Line line command) =
+    IsExpectedLine seed script text place line command
+IsExpected seed script text place (continuation.Notes notes) =
+    AreExpectedNotes seed script text place notes

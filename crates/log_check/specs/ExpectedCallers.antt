@@ -11,7 +11,7 @@ use Rattle.script_lang.specs.declared.commands.Section.{Section}
 use Rattle.reply_text.specs.Log.{entry_text}
 use Rattle.reply_text.specs.Ranges.{EntryIsInRange}
 use Rattle.next_calls.specs.Callers.{CallerView}
-use Rattle.log_check.specs.declared.expected.Due.{Due}
+use Rattle.log_check.specs.declared.expected.Continuation.{Continuation}
 use Rattle.log_check.specs.Expected.{IsExpected}
 use Rattle.log_check.specs.Reading.{CallersFollow}
 use Rattle.log_check.specs.Stops.{IsRead}
@@ -41,10 +41,10 @@ pub record IsAnsweredLine {M : Type 0} (reached_by : History → M → Type 0) (
       → reached_by (history ++ entry caller call reply ∷ []) new
 
 -- it comes after any entries that were read from a text up to here, after which the callers are
-abbrev pub IsExpectedHere : {M : Type 0} → (History → M → Type 0) → List CallerView → ℕ → List ℕ → M → Due
-    → Type 0
-IsExpectedHere reached_by callers place rest mount due =
+abbrev pub IsExpectedHere : {M : Type 0} → (History → M → Type 0) → List CallerView → ℕ → List ℕ → M
+    → Continuation → Type 0
+IsExpectedHere reached_by callers place rest mount next =
     (seed : List ℕ) (script : List Section) (whole : List ℕ) (history : History)
     → IsRead false seed script whole place rest history
     → CallersFollow reached_by seed script history callers mount
-    → IsExpected seed script whole place due
+    → IsExpected seed script whole place next

@@ -28,7 +28,7 @@ use text_words::{decimal_value, next_line, nth_word};
 
 /// What a run of a script has after the lines that a text has of it.
 #[derive(Drop)]
-pub enum Due {
+pub enum Continuation {
     /// This line, of a caller's next call, and the line of the script that the call's command is on.
     Line { line: Bytes, command: Option<u32> },
     /// The lines of these notes, since all calls are made.
@@ -47,21 +47,21 @@ pub fn expected_after<S: Stretch, T: OneThread>(
     text: &[u8],
     place: u64,
     mount: &mut T,
-) -> Result<Option<Due>, AllocError>
+) -> Result<Option<Continuation>, AllocError>
     requires ready { S.ready stretches.now }
     requires spelled { IsSpelled script.now }
     requires reached_by { T.reached_by [] mount.old }
-    ensures { IfOk result (λ due. IfSome due (IsExpected seed.now script.now text.now place)) }
+    ensures { IfOk result (λ next. IfSome next (IsExpected seed.now script.now text.now place)) }
 {
     let ways = remembering_ways(alloc, stretches, script.len())?;
-    let due = read_due(alloc, ways.as_slice(), script, seed, text, place, mount);
+    let next = continuation_by_ways(alloc, ways.as_slice(), script, seed, text, place, mount);
     forget(ways);
     scrub_stack();
-    due
+    next
 }
 
 // The same, with a way to stretch for each caller.
-fn read_due<'w, S: Stretch, T: OneThread>(
+fn continuation_by_ways<'w, S: Stretch, T: OneThread>(
     alloc: Global,
     ways: &[Remembering<'w, S>],
     script: &Script,
@@ -69,12 +69,12 @@ fn read_due<'w, S: Stretch, T: OneThread>(
     text: &[u8],
     place: u64,
     mount: &mut T,
-) -> Result<Option<Due>, AllocError>
+) -> Result<Option<Continuation>, AllocError>
     requires ready { All S.ready ways.now }
     requires ways { length ways.now ≡ length script.now }
     requires spelled { IsSpelled script.now }
     requires reached_by { T.reached_by [] mount.old }
-    ensures { IfOk result (λ due. IfSome due (IsExpected seed.now script.now text.now place)) }
+    ensures { IfOk result (λ next. IfSome next (IsExpected seed.now script.now text.now place)) }
 {
     let mut reading = Reading {
         callers: begin_callers(alloc, ways, script, seed)?,
@@ -83,9 +83,9 @@ fn read_due<'w, S: Stretch, T: OneThread>(
     };
     'lines: loop {
         if reading.place == place {
-            let due = reading.due(alloc, mount);
+            let next = reading.continuation(alloc, mount);
             forget_callers(alloc, reading.callers);
-            return Ok(Some(due?));
+            return Ok(Some(next?));
         }
         if !reading.read_line(alloc, false, ways, seed, mount)? {
             forget_callers(alloc, reading.callers);
@@ -96,7 +96,11 @@ fn read_due<'w, S: Stretch, T: OneThread>(
 
 impl<'a, 't> Reading<'a, 't> {
     // What comes next.
-    fn due<T: OneThread>(&self, alloc: Global, mount: &mut T) -> Result<Due, AllocError>
+    fn continuation<T: OneThread>(
+        &self,
+        alloc: Global,
+        mount: &mut T,
+    ) -> Result<Continuation, AllocError>
         ensures { IfOk result (IsExpectedHere T.reached_by self.now.callers.items self.now.place self.now.rest.now mount.old) }
     {
         match waiting_caller(alloc, self.callers.as_slice(), self.rest)? {
@@ -104,16 +108,16 @@ impl<'a, 't> Reading<'a, 't> {
                 let own = &self.callers[number];
                 let caller = own.caller();
                 let command = own.line();
-                let line = due_line(alloc, self.place, caller, call, mount)?;
-                Ok(Due::Line { line, command })
+                let line = line_of_call(alloc, self.place, caller, call, mount)?;
+                Ok(Continuation::Line { line, command })
             }
-            None => Ok(Due::Notes(notes_of(alloc, self.callers.as_slice())?)),
+            None => Ok(Continuation::Notes(notes_of(alloc, self.callers.as_slice())?)),
         }
     }
 }
 
 // Returns the line of the caller's call, with the mount's reply to it. Wipes what no log shows of the call.
-fn due_line<T: OneThread>(
+fn line_of_call<T: OneThread>(
     alloc: Global,
     place: u64,
     caller: u32,

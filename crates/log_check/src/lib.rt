@@ -14,6 +14,6 @@ mod reading;
 mod start;
 
 pub use check::{Verdict, check_log};
-pub use expected::{Due, expected_after};
+pub use expected::{Continuation, expected_after};
 pub use laws::{logs_of_runs_are_not_refused, mounts_have_one_reply, next_calls_follow};
 pub use one_thread::OneThread;

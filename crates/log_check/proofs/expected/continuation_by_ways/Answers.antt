@@ -3,7 +3,7 @@ use Rattle.fsc_session.proofs.Asked.{spelled-few, spelled-asked}
 use Rattle.log_check.specs.Reading.{AreCallers}
 use Rattle.log_check.proofs.DueLemmas.{is_due}
 use Rattle.log_check.proofs.SayLemmas.{begins, goes_on}
-use Rattle.log_check.proofs.expected.read_due.Goals as goal
+use Rattle.log_check.proofs.expected.continuation_by_ways.Goals as goal
 
 pub begin_callers-requires-clause-few : goal.begin_callers-requires-clause-few
 begin_callers-requires-clause-few g c = spelled-few c.args.script.now c.requires.spelled
@@ -21,7 +21,7 @@ lines-init g c =
     }
 
 pub returns-then-reading-place : goal.returns-then-reading-place
-returns-then-reading-place g c = is_due _ _ _ _ _ _ _ _ _ _ c.if-reading-place.true c.lines.invariant.read c.in_ok-due.ensures
+returns-then-reading-place g c = is_due _ _ _ _ _ _ _ _ _ _ c.if-reading-place.true c.lines.invariant.read c.in_ok-next.ensures
 
 pub lines-preserved : goal.lines-preserved
 lines-preserved g c = record {

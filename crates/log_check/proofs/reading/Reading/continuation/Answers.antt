@@ -2,7 +2,7 @@ use Rattle.std.proofs.Common.{ap, ◌∙◌}
 use Rattle.next_calls.specs.Callers.{CallerView}
 use Rattle.log_check.proofs.DueLemmas.{line_at, line_due, notes_due}
 use Rattle.log_check.proofs.ReadingLemmas.{is_there}
-use Rattle.log_check.proofs.reading.Reading.due.Goals as goal
+use Rattle.log_check.proofs.reading.Reading.continuation.Goals as goal
 
 pub returns-in_ok-line-in-Some : goal.returns-in_ok-line-in-Some
 returns-in_ok-line-in-Some g c = λ seed script whole h read stand.

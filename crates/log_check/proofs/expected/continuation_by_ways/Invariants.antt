@@ -1,6 +1,6 @@
 use Rattle.std.proofs.Common.{false, ◌≡◌, ◌+◌, ◌<◌, ◌^◌, length}
 use Rattle.log_check.proofs.SayLemmas.{Stands}
-use Rattle.log_check.proofs.expected.read_due.Given as goal
+use Rattle.log_check.proofs.expected.continuation_by_ways.Given as goal
 
 -- a history that may reach the mount was read up to the place
 abbrev pub invariant-lines : goal.invariant-lines
