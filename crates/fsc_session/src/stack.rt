@@ -19,7 +19,7 @@ pub fn scrub_stack() -> u8
     ensures { result ≡ 0 }
 {
     let mut first = 1;
-    overwrite_below(&mut first);
+    wipe_below(&mut first);
     first
 }
 
@@ -28,7 +28,7 @@ pub fn scrub_stack() -> u8
 // So the call has a visible effect. Of two calls without one LLVM removes the second if its caller has
 // made the first: it treats them as one.
 #[inline(never)]
-fn overwrite_below(first: &mut u8)
+fn wipe_below(first: &mut u8)
     ensures { first.new ≡ 0 }
 {
     let mut room = [0; SCRUBBED_BYTES];

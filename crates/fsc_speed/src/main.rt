@@ -42,7 +42,7 @@ fsc_speed NAME COUNT; names of kernels with a digest: \
 names of kernels of a mount: \
     mkdir, unlink, stat-warm, stat-round, stat-cold, rename, list-plain, list-encrypted, \
     mkdir-NAMES, unlink-NAMES, stat-NAMES (to 4096), read-4096, write-4096, write-1, open-close, \
-    status-4096, status-anew, shared-status-1, shared-status-2, shared-status-4, \
+    status-4096, status-again, shared-status-1, shared-status-2, shared-status-4, \
     shared-read-1, shared-read-2, shared-read-4";
 
 fn main(rt: HostRuntime) -> io::Result<ExitCode> {

@@ -1,7 +1,7 @@
 //! The mount that answers the calls of a log that is checked.
 
 ghost use Rattle.mount_shared.specs.IsStateAfter.{IsStateAfter};
-ghost use Rattle.mount_shared.specs.StateLaws.{IsStateAfter-wanting};
+ghost use Rattle.mount_shared.specs.StateLaws.{IsStateAfter-out_of_memory};
 
 use log_check::OneThread;
 use mount_model::{Call, Reply};
@@ -24,6 +24,6 @@ impl OneThread for OneMount {
 
     ghost reached_lawful = { λ history one reached_by. reached_by.lawful };
 
-    ghost led_without_memory = { λ history one caller call fits takes reached_by.
-        IsStateAfter-wanting history caller call one.mount.state takes reached_by };
+    ghost reaches_without_memory = { λ history one caller call fits takes reached_by.
+        IsStateAfter-out_of_memory history caller call one.mount.state takes reached_by };
 }

@@ -51,7 +51,7 @@ pub fn run_linked_in_threads<
 {
     let sections = script.as_slice();
     if sections.is_empty() {
-        return Ok(run_nobody(alloc, mounts));
+        return Ok(run_no_caller(alloc, mounts));
     }
     let (shared, passes) = share(alloc, mounts, script)?;
     let callers = Callers { passes, sections };
@@ -63,7 +63,7 @@ pub fn run_linked_in_threads<
 }
 
 // A run without callers: nothing is shared, and no thread starts.
-fn run_nobody<M: MountMachine, N: MountMachine>(alloc: Global, mounts: Mounts<M, N>) -> LinkedOutput
+fn run_no_caller<M: MountMachine, N: MountMachine>(alloc: Global, mounts: Mounts<M, N>) -> LinkedOutput
     requires even { M.reaches [] mounts.even }
     requires odd { N.reaches [] mounts.odd }
     ensures none { (result.even.items ≡ []) × (result.odd.items ≡ []) × (result.notes.items ≡ []) }

@@ -29,7 +29,7 @@ pub trait OneThread {
         → IsLawful history };
 
     // A call that takes memory and was out of memory leaves it as it is.
-    ghost led_without_memory: { (history : History) (mount : Self) (caller : ℕ) (call : Call)
+    ghost reaches_without_memory: { (history : History) (mount : Self) (caller : ℕ) (call : Call)
         → Fits call → IsTrue (takes_memory call.op) → reached_by history mount
         → reached_by (history ++ entry caller call (Refused NoMemory) ∷ []) mount };
 }

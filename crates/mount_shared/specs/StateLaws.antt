@@ -69,9 +69,9 @@ more h e old new before steps claims told =
 abbrev pub wanting : ℕ → Call → MountEntry
 wanting caller call = entry caller call (Refused NoMemory)
 
-pub IsStateAfter-wanting : (h : History) (caller : ℕ) (call : Call) (state : MountState)
+pub IsStateAfter-out_of_memory : (h : History) (caller : ℕ) (call : Call) (state : MountState)
     → IsTrue (takes_memory call.op)
     → IsStateAfter h state → IsStateAfter (h ++ wanting caller call ∷ []) state
-IsStateAfter-wanting h caller call state takes before =
+IsStateAfter-out_of_memory h caller call state takes before =
     more h (wanting caller call) state state before (λ m st agrees. (inr (takes, refl, refl), st)) refl
     (want_tells state.ring.claims call.uid call.op takes)

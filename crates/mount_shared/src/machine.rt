@@ -17,7 +17,7 @@ pub trait MountMachine: Machine<Call = Call, Reply = Reply> {
 
     // A history that reaches it still reaches it with a call after it that takes memory and was out of
     // memory: such a call leaves it as it is.
-    ghost leads_without_memory: { (history : History) (machine : Self) (caller : ℕ) (call : Call)
+    ghost reaches_without_memory: { (history : History) (machine : Self) (caller : ℕ) (call : Call)
         → Fits call → IsTrue (takes_memory call.op) → Self.reaches history machine
         → Self.reaches (history ++ entry caller call (Refused NoMemory) ∷ []) machine };
 }

@@ -16,7 +16,7 @@ ghost use Rattle.mount_shared.specs.DropsCaches.{DropsCaches};
 ghost use Rattle.mount_shared.specs.PendingBlocks.{IsPendingOfHandle};
 ghost use Rattle.mount_shared.specs.Made.{IsMade};
 ghost use Rattle.mount_shared.specs.IsStateAfter.{IsStateAfter};
-ghost use Rattle.mount_shared.specs.StateLaws.{IsStateAfter-wanting};
+ghost use Rattle.mount_shared.specs.StateLaws.{IsStateAfter-out_of_memory};
 ghost use Rattle.mount_shared.specs.KeyReports.{AbsentHoldsNothing, BusyIsOpen};
 ghost use Rattle.mount_shared.specs.OtherReports.{ClosesOwn, ReportsRecords};
 
@@ -122,6 +122,6 @@ impl Machine for Mount {
 impl MountMachine for Mount {
     ghost takes_fitting = { λ call fits. fits };
 
-    ghost leads_without_memory = { λ history mount caller call fits takes reached_by.
-        IsStateAfter-wanting history caller call mount.state takes reached_by };
+    ghost reaches_without_memory = { λ history mount caller call fits takes reached_by.
+        IsStateAfter-out_of_memory history caller call mount.state takes reached_by };
 }

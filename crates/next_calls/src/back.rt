@@ -24,7 +24,7 @@ pub(crate) fn take_back(
         ≡ take count (logged_replies (drop kept entries.old))) }
 {
     'further: while entries.len() > kept + count {
-        let_go(entries.pop());
+        drop_popped(entries.pop());
     }
     let mut replies = Vec::new(alloc);
     'listed: while entries.len() > kept {
@@ -36,7 +36,7 @@ pub(crate) fn take_back(
 }
 
 // In a function of its own: in a function with branches, each branch would drop each variant.
-fn let_go(_placed: Option<(u64, Entry<LoggedCall, Reply>)>) {}
+fn drop_popped(_placed: Option<(u64, Entry<LoggedCall, Reply>)>) {}
 
 fn reply_of(entry: Entry<LoggedCall, Reply>) -> Reply
     ensures { result ≡ entry.reply }

@@ -18,7 +18,7 @@ pub(crate) fn retain_last_listing(alloc: Global, entries: &mut EntryList) -> Res
         if lists_names(&placed.1.reply) {
             return keep_alone(alloc, entries, placed);
         }
-        let_go(placed);
+        drop_placed(placed);
     }
     Ok(())
 }
@@ -33,7 +33,7 @@ fn keep_alone(
 {
     let mut alone = EntryList::new(alloc);
     alone.push(placed)?;
-    let_all_go(mem::replace(entries, alone));
+    drop_all(mem::replace(entries, alone));
     Ok(())
 }
 
@@ -45,6 +45,6 @@ fn lists_names(reply: &Reply) -> bool
 }
 
 // In functions of their own: in a function with branches, each branch would drop each variant.
-fn let_go(_placed: (u64, Entry<LoggedCall, Reply>)) {}
+fn drop_placed(_placed: (u64, Entry<LoggedCall, Reply>)) {}
 
-fn let_all_go(_entries: EntryList) {}
+fn drop_all(_entries: EntryList) {}

@@ -148,13 +148,13 @@ fn stretched_of(
 // Stores this, and wipes what was stored before.
 fn replace_kept(kept: &RefCell<Option<Stretched>>, next: Option<Stretched>) {
     match kept.try_replace(next) {
-        Ok(former) => overwrite(former),
-        Err(next) => overwrite(next),
+        Ok(former) => wipe_stretched(former),
+        Err(next) => wipe_stretched(next),
     }
 }
 
 // Wipes the password and its tag.
-fn overwrite(stretched: Option<Stretched>) {
+fn wipe_stretched(stretched: Option<Stretched>) {
     if let Some(
         Stretched {
             mut password,

@@ -58,7 +58,7 @@ pub fn run_in_threads<
 {
     let sections = script.as_slice();
     if sections.is_empty() {
-        return Ok(run_nobody(alloc, machine));
+        return Ok(run_no_caller(alloc, machine));
     }
     let Some(calls) = max_calls_of_sections(sections, MAX_CALLS) else {
         return Err(AllocError);
@@ -72,7 +72,7 @@ pub fn run_in_threads<
 }
 
 // Returns the result of a run without callers. Nothing is shared, and no thread starts.
-fn run_nobody<M: MountMachine>(alloc: Global, machine: M) -> RunOutput
+fn run_no_caller<M: MountMachine>(alloc: Global, machine: M) -> RunOutput
     requires { M.reaches [] machine }
     ensures none { (result.entries.items ≡ []) × (result.notes.items ≡ []) }
     ensures lawful { M.lawful [] }

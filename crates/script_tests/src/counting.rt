@@ -46,5 +46,5 @@ impl Machine for Counting {
 impl MountMachine for Counting {
     ghost takes_fitting = { λ _ _. tt };
 
-    ghost leads_without_memory = { λ _ _ _ _ _ _ _. tt };
+    ghost reaches_without_memory = { λ _ _ _ _ _ _ _. tt };
 }

@@ -53,5 +53,5 @@ impl Machine for Replaced {
 impl MountMachine for Replaced {
     ghost takes_fitting = { λ _ fits. fits };
 
-    ghost leads_without_memory = { λ _ _ _ _ _ _ _. tt };
+    ghost reaches_without_memory = { λ _ _ _ _ _ _ _. tt };
 }

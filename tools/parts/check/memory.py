@@ -118,13 +118,13 @@ def keys_in_core(tally):
 
 
 def wipes_in_code(tally):
-    """What the sources promise to overwrite is overwritten in the machine code."""
+    """What the sources promise to wipe is wiped in the machine code."""
     tool = subprocess.run([f"{TOP}/tools/wipes_in_code", PROGRAM], stdout=subprocess.PIPE,
                           stderr=subprocess.STDOUT, check=False)
     if tool.returncode == NO_TOOL:
         print("check: there is no objdump, so no machine code was read")
         return
-    tally.wants("the machine code overwrites what the sources promise", tool.returncode == 0,
+    tally.wants("the machine code wipes what the sources promise", tool.returncode == 0,
                 tool.stdout.decode())
 
 

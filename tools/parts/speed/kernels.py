@@ -3,7 +3,7 @@ import statistics
 
 from parts.speed import tables
 from parts.speed.rivals import kernel_work
-from parts.speed.tables import LENGTHS, MASKED, OPENSSL, SHARED, STATUS, STATUS_ANEW, THREADS
+from parts.speed.tables import LENGTHS, MASKED, OPENSSL, SHARED, STATUS, STATUS_AGAIN, THREADS
 from parts.speed.timing import CLOCK, Side, Work, alone, sides_in_turn
 
 LANES, LANE_RUNS = "argon2id-lanes-3-65536-4", 25
@@ -98,11 +98,11 @@ class Kernels:
         """All calls in turn."""
         names = ["%s-%d" % (family, many) for family in ("turn", *(family for family, *_ in SHARED))
                  for many in THREADS]
-        if not any(self.wants(name) for name in (*names, STATUS[0], STATUS_ANEW[0])):
+        if not any(self.wants(name) for name in (*names, STATUS[0], STATUS_AGAIN[0])):
             return
         self.rows.section("threads: turn-N by the median of %d runs or more; .clock by the clock"
                           % tables.TURN_RUNS)
-        for name, count in (STATUS, STATUS_ANEW):
+        for name, count in (STATUS, STATUS_AGAIN):
             if self.wants(name):
                 self.print_sides(name, [], sides_in_turn([alone("", self.work(name, count))], self.runs))
         self.turns()

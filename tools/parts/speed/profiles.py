@@ -18,7 +18,7 @@ def works(kernels, whole, name):
         return (full, 1), (none, 1), tables.SCRIPT_LINES - 1
     known = {kernel.name: kernel for kernel in tables.CIPHERS + tables.NAMES + tables.NAME_GROWTH
              + tables.NAMES_ALONE + tables.FILES + tables.SCRIPT_KERNELS}
-    known |= {counted[0]: tables.Kernel(*counted) for counted in (*tables.NODE_COUNTS, tables.STATUS_ANEW)}
+    known |= {counted[0]: tables.Kernel(*counted) for counted in (*tables.NODE_COUNTS, tables.STATUS_AGAIN)}
     if name not in known:
         return None
     kernel = known[name]

@@ -102,8 +102,8 @@ NODE_COUNTS = (("node-get-16", 2000000), ("node-get-256", 2000000), ("node-get-4
 THREADS = (1, 2, 4)
 TURN_CALLS, TURN_RUNS, TURN_GOAL = 4000000, 15, ratio(1.0)
 STATUS = ("status-4096", 2000000)
-STATUS_ANEW = ("status-anew", 2000000)
-SHARED = (("shared-status", 2000000, STATUS_ANEW), ("shared-read", 20000, ("read-4096", 5000)))
+STATUS_AGAIN = ("status-again", 2000000)
+SHARED = (("shared-status", 2000000, STATUS_AGAIN), ("shared-read", 20000, ("read-4096", 5000)))
 
 # Whole runs on texts: what is reported in MB/s, and the goal.
 TEXT_RUNS = (("fsc-check", False, ratio(3)), ("fsc-dump", True, Goal("rate", 150)),
@@ -132,6 +132,6 @@ def kernel_names():
               if isinstance(part, tuple)}
     names |= {"%s-%d" % (family, many) for family in ("turn", "shared-status", "shared-read")
               for many in THREADS}
-    names |= {name for name, *_ in TEXT_RUNS} | {STATUS[0], STATUS_ANEW[0], "aes-chain", "script-line"}
+    names |= {name for name, *_ in TEXT_RUNS} | {STATUS[0], STATUS_AGAIN[0], "aes-chain", "script-line"}
     return names | {"memory-long-lines", "memory-short-lines", "argon2id-lanes-3-65536-4", "fsc-gen",
                     "fsc-unlock"}

@@ -73,7 +73,7 @@ impl Asked {
                 self.ask_often(calls.as_slice(), count);
             }
             Run::OpenClose => self.open_often(&OnPath::Open.numbered(alloc, 0)?, count),
-            Run::StatusAnew => self.tell_anew(count),
+            Run::StatusAgain => self.ask_status_again(count),
         }
         Ok(())
     }
@@ -111,7 +111,7 @@ impl Asked {
     }
 
     // Asks for the status of the key `count` times.
-    fn tell_anew(&mut self, count: u32) {
+    fn ask_status_again(&mut self, count: u32) {
         let id = id_of_key();
         for _ in 0..count {
             self.ask(&status(id));

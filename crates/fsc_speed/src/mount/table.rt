@@ -125,5 +125,5 @@ pub(crate) static KERNELS: [(&str, MountKernel); 14] = [
     ("write-1", MountKernel::Alone(ONE_BLOCK, WRITE_ONE)),
     ("open-close", MountKernel::Alone(ONE, Run::OpenClose)),
     ("status-4096", MountKernel::Alone(ALL_OPEN, TELL_STATUS)),
-    ("status-anew", MountKernel::Alone(ALL_OPEN, Run::StatusAnew)),
+    ("status-again", MountKernel::Alone(ALL_OPEN, Run::StatusAgain)),
 ];

@@ -62,7 +62,7 @@ pub(crate) enum Run {
     /// The first file is opened, and what was opened is closed.
     OpenClose,
     /// The status of the key, each time by a new call, as a caller in turns makes one for each.
-    StatusAnew,
+    StatusAgain,
 }
 
 /// Adds the calls that prepare a mount.

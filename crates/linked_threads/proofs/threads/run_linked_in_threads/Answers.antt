@@ -15,9 +15,9 @@ nobody n is = eqb-true n 0 (sym is)
 
 pub returns-then-is_empty : goal.returns-then-is_empty
 returns-then-is_empty g c =
-    nobody_runs g.M.Machine.lawful g.N.Machine.lawful c.args.seed.now c.args.script.now c.run_nobody.result.even.items c.run_nobody.result.odd.items c.run_nobody.result.notes.items
+    nobody_runs g.M.Machine.lawful g.N.Machine.lawful c.args.seed.now c.args.script.now c.run_no_caller.result.even.items c.run_no_caller.result.odd.items c.run_no_caller.result.notes.items
     (subst (λ sections. length sections ≡ 0) c.as_slice-sections.ensures (nobody _ c.if-is_empty.ensures))
-    c.run_nobody.ensures.none.0 c.run_nobody.ensures.none.1 c.run_nobody.ensures.none.2 c.run_nobody.ensures.lawful_even c.run_nobody.ensures.lawful_odd
+    c.run_no_caller.ensures.none.0 c.run_no_caller.ensures.none.1 c.run_no_caller.ensures.none.2 c.run_no_caller.ensures.lawful_even c.run_no_caller.ensures.lawful_odd
 
 pub share-requires-clause-some : goal.share-requires-clause-some
 share-requires-clause-some g c =
