@@ -17,8 +17,10 @@ NAME = rf"(?:{'|'.join(NAMES)})(?:\.(?:bytes|as_slice|as_bytes)\(\))?"
 COMPARED = re.compile(rf"\b{NAME}\s*[=!]=|[=!]=\s*[&*]*(?:\w+\.)*{NAME}\s*(?:[;,)&|{{]|$)")
 
 # Types that hold secrets: none has an equality of its own, derived or written.
-TYPES = ("Aes256", "ContentsKey", "FileCipher", "FileKey", "FileKeys", "KeyRef", "NameCipher", "NewSecret",
-         "PreparedKey", "RawKey", "Secret", "StretchedKey", "XtsKey")
+TYPES = ("Aes256", "CachedKey", "ContentsKey", "FileCipher", "FileKey", "FixedSeed", "KeyRef", "Keyed",
+         "ModeKey", "NameCipher", "NewSecret", "NodeKey", "OpenedPolicy", "OpenedProtector", "PreparedKey",
+         "Prk512", "RawKey", "Secret", "Stretched", "StretchedKey", "XtsKey")
+DEFINED = re.compile(r"^\s*(?:pub(?:\(\w+\))? )?(?:struct|enum) (\w+)", re.M)
 DERIVED = re.compile(r"#\[derive\([^)]*\bPartialEq\b[^)]*\)\]\s*(?:#\[[^\]]*\]\s*)*"
                      r"(?:pub(?:\(\w+\))? )?(?:struct|enum) (\w+)")
 WRITTEN = re.compile(r"\bPartialEq(?:<[^>]*>)? for (\w+)")
@@ -50,13 +52,16 @@ def no_secret_is_compared(tally):
     tally.wants("other comparisons are allowed", not any(COMPARED.search(line) for line in ALLOWED))
     files = list(sources())
     tally.wants("there are sources to search", len(files) > 100)
-    broken = []
+    broken, defined = [], set()
     for path, lines in files:
         broken += [f"{path}: {line.strip()}" for line in lines if COMPARED.search(line)]
         text = "\n".join(lines)
+        defined.update(DEFINED.findall(text))
         equal = DERIVED.findall(text) + WRITTEN.findall(text)
         broken += [f"{path}: an equality of {name}" for name in equal if name in TYPES]
     tally.wants("no secret is compared by == in the sources", not broken, "; ".join(broken))
+    undefined = [name for name in TYPES if name not in defined]
+    tally.wants("each type of secrets is defined in a crate", not undefined, " ".join(undefined))
 
 
 CHECKS = [no_secret_is_compared]
