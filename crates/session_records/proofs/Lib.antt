@@ -1,3 +1,4 @@
+pub mod AddedWrapLemmas
 pub mod DrawLemmas
 pub mod OpeningLemmas
 pub mod TextLemmas

@@ -42,7 +42,7 @@ use Rattle.session_records.specs.Records.{protector_with_key, protector_under, p
 use Rattle.session_records.specs.RecordKeys.{protector_key, checked_protector_key, policy_key, checked_policy_key, key_in_wrap, wrapping_key}
 use Rattle.session_records.specs.LoadedRecords.{loaded_policy, checked_policy, loaded_protector, checked_protector}
 
-same_bytes : (bytes : List ℕ) → bytes_eq bytes bytes ≡ true
+pub same_bytes : (bytes : List ℕ) → bytes_eq bytes bytes ≡ true
 same_bytes bytes = (bytes_eq-Decides bytes bytes).1 refl
 
 -- a key that was found has the descriptor of its record
@@ -64,7 +64,7 @@ loaded_again : (version : ℕ) (label : List ℕ) (p : Protector) → IsProtecto
 loaded_again version label p spelled named =
     ap (checked_protector label version) (protector_again p spelled) ∙ named_again version label p named
 
-policy_again_named : (version : ℕ) (label : List ℕ) (p : PolicyFile) → IsPolicyFile p → p.name ≡ label
+pub policy_again_named : (version : ℕ) (label : List ℕ) (p : PolicyFile) → IsPolicyFile p → p.name ≡ label
     → loaded_policy label (Held version (policy_text p)) ≡ Ok (record { version = version; policy = p })
 policy_again_named version label p spelled named =
     ap (checked_policy label version) (policy_again p spelled)

@@ -1,6 +1,7 @@
 pub mod DerivedRecords
 pub mod Derivations
 pub mod MadeRecords
+pub mod ChangedPolicies
 pub mod ChangedRecords
 pub mod NewProtectors
 pub mod NewPolicies

@@ -6,6 +6,7 @@ ghost use Rattle.key_wrap.specs.Wrapping.{opened_secret, wrapped_secret};
 ghost use Rattle.script_words.specs.NewSecrets.{IsNewSecret};
 ghost use Rattle.session_records.specs.MadeRecords.{MadeProtectorsOpen, MadePoliciesOpen};
 ghost use Rattle.session_records.specs.MadeRecords.{MadeWrapsOpen, OpenedPoliciesAreNamed};
+ghost use Rattle.session_records.specs.ChangedPolicies.{AddedProtectorsOpen, EarlierProtectorsOpen};
 ghost use Rattle.session_records.specs.ChangedRecords.{ChangedProtectorsOpen};
 ghost use Rattle.session_records.specs.NewProtectors as spec;
 
@@ -118,12 +119,16 @@ pub(crate) fn new_wrapping_key<S: Stretch>(
 /// text, if a record can spell them.
 /// - A protector opens with its secret, and one that got another secret opens with that one.
 /// - A policy opens through its protector, and a wrap with the key of its protector.
+/// - An opened policy that got a wrap for a further protector opens through that one, and with any wrap more
+///   through each protector that opened it before.
 /// - The key of a policy that was opened has the identifier in its record.
 pub fn made_records_open()
     ensures protectors { MadeProtectorsOpen }
     ensures changed { ChangedProtectorsOpen }
     ensures policies { MadePoliciesOpen }
     ensures wraps { MadeWrapsOpen }
+    ensures added { AddedProtectorsOpen }
+    ensures earlier { EarlierProtectorsOpen }
     ensures named { OpenedPoliciesAreNamed }
 {
     unwrapping_undoes_wrapping();

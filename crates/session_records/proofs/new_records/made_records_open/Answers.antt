@@ -1,3 +1,4 @@
+use Rattle.session_records.proofs.AddedWrapLemmas.{added_protectors_open, earlier_protectors_open}
 use Rattle.session_records.proofs.OpeningLemmas.{protector_opens, changed_opens, policy_opens, wrap_opens, policies_named}
 use Rattle.session_records.proofs.new_records.made_records_open.Goals as goal
 
@@ -15,3 +16,9 @@ returns-clause-named c = policies_named
 
 pub returns-clause-policies : goal.returns-clause-policies
 returns-clause-policies c = policy_opens c.unwrapping_undoes_wrapping.ensures.opens
+
+pub returns-clause-added : goal.returns-clause-added
+returns-clause-added c = added_protectors_open c.unwrapping_undoes_wrapping.ensures.opens
+
+pub returns-clause-earlier : goal.returns-clause-earlier
+returns-clause-earlier c = earlier_protectors_open
