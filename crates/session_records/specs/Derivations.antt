@@ -1,5 +1,6 @@
 -- Bytes derived from a seed, for what the commands of a script make.
 use Rattle.std.specs.Prelude.{◌≡◌, ℕ, ◌+◌, ◌*◌, ◌%◌, ◌^◌, ◌<◌, List, [], ◌∷◌, ◌++◌, take, codes}
+use Rattle.byte_words.specs.Bytes.{AreBytesOfLength}
 use Rattle.byte_words.specs.Numbers.{little_endian_bytes}
 use Rattle.hmac_kdf.specs.Hkdf.{hkdf_sha512}
 use Rattle.session_records.specs.declared.derivations.Purpose.{Purpose}
@@ -30,6 +31,11 @@ drawn_bytes seed caller command purpose = hkdf_sha512 [] seed (hkdf_info caller 
 -- the nonce that a caller's command of this number derives for what it makes
 unfoldable pub derived_nonce : List ℕ → ℕ → ℕ → List ℕ
 derived_nonce seed caller number = take NONCE_BYTES (drawn_bytes seed (caller_byte caller) number NonceOrKey)
+
+-- it is 16 bytes
+abbrev pub DerivedNoncesAreBytes : Type 0
+DerivedNoncesAreBytes =
+    (seed : List ℕ) (caller number : ℕ) → AreBytesOfLength 16 (derived_nonce seed caller number)
 
 -- the first `count` of the bytes that a caller's command of this number derives
 unfoldable pub first_drawn : ℕ → List ℕ → ℕ → ℕ → Purpose → List ℕ

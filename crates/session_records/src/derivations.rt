@@ -1,7 +1,8 @@
 //! Bytes derived from a seed: each caller, command and purpose has its own.
 
 ghost use Rattle.std.specs.Prelude.{◌≡◌, ◌≤◌, length, take};
-ghost use Rattle.session_records.specs.Derivations.{DerivationsAreDistinct, drawn_bytes, hkdf_info};
+ghost use Rattle.session_records.specs.Derivations.{DerivationsAreDistinct, DerivedNoncesAreBytes};
+ghost use Rattle.session_records.specs.Derivations.{drawn_bytes, hkdf_info};
 ghost use Rattle.session_records.specs.Derivations.{purpose_number, caller_byte, derived_nonce};
 
 use crate::turn::Turn;
@@ -56,6 +57,11 @@ pub fn derived_nonce(seed: &[u8; 32], turn: Turn) -> [u8; NONCE_BYTES]
     );
     nonce
 }
+
+/// Does nothing. Its contract is the law that a derived nonce is 16 bytes.
+pub fn derived_nonces_are_bytes()
+    ensures { DerivedNoncesAreBytes }
+{}
 
 // The caller's byte in a derivation's info.
 pub(crate) fn caller_byte(caller: u32) -> u8

@@ -16,7 +16,9 @@ mod stored;
 mod turn;
 mod wrapping;
 
-pub use derivations::{NONCE_BYTES, Purpose, derived_nonce, distinct_derivations, draw};
+pub use derivations::{
+    NONCE_BYTES, Purpose, derived_nonce, derived_nonces_are_bytes, distinct_derivations, draw,
+};
 pub use derived_records::{new_policy, new_protector, policy_with_wrap, protector_with_secret};
 pub use loading::{LoadedPolicy, LoadedProtector, loaded_policy};
 pub use new_records::made_records_open;
