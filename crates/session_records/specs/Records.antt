@@ -2,7 +2,9 @@
 use Rattle.std.specs.Prelude.{ℕ, ◌≡◌, List, Result, Ok, Err}
 use Rattle.mount_model.specs.declared.reply.Reply.{Reply}
 use Rattle.script_words.specs.declared.secrets.Secret.{Secret}
+use Rattle.script_words.specs.declared.secrets.Secret.TheVariants.{Raw}
 use Rattle.reply_text.specs.declared.outcome.Outcome.{Outcome}
+use Rattle.reply_text.specs.declared.outcome.Outcome.TheVariants.{WrongKind}
 use Rattle.session_records.specs.declared.loading.LoadedPolicy.{LoadedPolicy}
 use Rattle.session_records.specs.declared.loading.LoadedProtector.{LoadedProtector}
 use Rattle.session_records.specs.declared.opening.OpenedPolicy.{OpenedPolicy}
@@ -36,6 +38,17 @@ abbrev pub OpensByStretching : List ℕ → Secret → Reply → Type 0
 OpensByStretching label secret reply =
     (loaded : LoadedProtector)
     × ((loaded_protector label reply ≡ Ok loaded) × IsStretched secret loaded.protector.kind)
+
+-- nothing is stretched for a raw secret
+abbrev pub RawSecretsAreNotStretched : Type 0
+RawSecretsAreNotStretched =
+    (label raw : List ℕ) (reply : Reply) → ¬ OpensByStretching label (Raw raw) reply
+
+-- nor for a protector of another kind than the secret
+abbrev pub OtherKindsAreNotStretched : Type 0
+OtherKindsAreNotStretched =
+    (label : List ℕ) (secret : Secret) (reply : Reply)
+    → unwrapped_protector label secret reply ≡ Err WrongKind → ¬ OpensByStretching label secret reply
 
 -- ---- a policy opened through a protector
 

@@ -22,7 +22,10 @@ pub use derivations::{
 pub use derived_records::{new_policy, new_protector, policy_with_wrap, protector_with_secret};
 pub use loading::{LoadedPolicy, LoadedProtector, loaded_policy};
 pub use new_records::made_records_open;
-pub use opening::{OpenedPolicy, OpenedProtector, opened_policy, unwrapped_protector};
+pub use opening::{
+    OpenedPolicy, OpenedProtector, only_passphrases_are_stretched, opened_policy,
+    unwrapped_protector,
+};
 pub use options::{node_policy, with_options};
 pub use outcomes::{ExpectedReply, outcome_of};
 pub use stop::Stop;

@@ -8,6 +8,7 @@ ghost use Rattle.fsc_keys.specs.declared.raw_key.TheConstants.{MAX_RAW_KEY_BYTES
 ghost use Rattle.script_words.specs.Secrets.{IsSecret};
 ghost use Rattle.session_records.specs.RecordKeys as keys;
 ghost use Rattle.session_records.specs.Records as spec;
+ghost use Rattle.session_records.specs.Records.{OtherKindsAreNotStretched, RawSecretsAreNotStretched};
 ghost use Rattle.session_records.specs.Stopped.{Gives, IfNoMemory};
 
 use crate::loading::{LoadedPolicy, LoadedProtector, loaded_policy, loaded_protector};
@@ -59,6 +60,13 @@ pub fn unwrapped_protector<S: Stretch>(
         Err(outcome) => Err(Stop::Ended(outcome)),
     }
 }
+
+/// Does nothing. Its contract is the law that only passphrases are stretched. So `unwrapped_protector` never
+/// returns out of memory with a raw secret, nor for a protector of another kind than the secret.
+pub fn only_passphrases_are_stretched()
+    ensures raw { RawSecretsAreNotStretched }
+    ensures kind { OtherKindsAreNotStretched }
+{}
 
 // A protector opened with a secret. Wipes the wrapping key.
 fn protector_by<S: Stretch>(
