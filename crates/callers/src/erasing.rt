@@ -11,7 +11,7 @@ use disk_tree::DiskTree;
 /// Removes the name from the directory, and the node to which it resolves from the disk. Returns whether
 /// there was such a name; if not, the disk is unchanged.
 pub fn erase(disk: &mut DiskTree, dir: u32, name: &[u8]) -> bool
-    ensures told { result ≡ is_some (number_under name.now (children disk.old dir)) }
+    ensures found { result ≡ is_some (number_under name.now (children disk.old dir)) }
     ensures gone { IfSome (number_under name.now (children disk.old dir))
         (λ number. disk.new ≡ map.remove (without_entry_and_name disk.old dir name.now number) number) }
     ensures kept { number_under name.now (children disk.old dir) ≡ None → disk.new ≡ disk.old }

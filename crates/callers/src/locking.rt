@@ -21,7 +21,7 @@ use turn_lock::Machine;
 pub struct Locked {
     pub mount: Mount,
     pub id: KeyId,
-    pub told: Reply,
+    pub status: Reply,
 }
 
 /// Writes a file into an encrypted directory of a new mount, removes the only claim on the key, and asks
@@ -29,12 +29,12 @@ pub struct Locked {
 pub fn write_and_lock(alloc: Global, raw: &[u8], nonces: &[[u8; 16]; 3]) -> Option<Locked>
     ensures id { IfSome result (λ l. l.id ≡ key_id_of raw.now) }
     ensures claims { IfSome result (λ l. l.mount.state.ring.claims ≡ no_claims) }
-    ensures told { IfSome result (λ l. ReportsClaims no_claims 1000 (KeyStatus l.id) l.told) }
-    ensures gone { IfSome result (λ l. AbsentHoldsNothing l.mount.state (KeyStatus l.id) l.told) }
+    ensures reported { IfSome result (λ l. ReportsClaims no_claims 1000 (KeyStatus l.id) l.status) }
+    ensures gone { IfSome result (λ l. AbsentHoldsNothing l.mount.state (KeyStatus l.id) l.status) }
 {
     let mut mount = Mount::new(alloc).ok()?;
-    let (id, told) = write_in(alloc, &mut mount, raw, nonces)?;
-    Some(Locked { mount, id, told })
+    let (id, status) = write_in(alloc, &mut mount, raw, nonces)?;
+    Some(Locked { mount, id, status })
 }
 
 // The same in a mount that is passed by reference: returns the key's identifier, and the mount's reply on
@@ -48,7 +48,7 @@ fn write_in(
     ensures id { IfSome result (λ r. r.0 ≡ key_id_of raw.now) }
     ensures claims { IfSome result (λ r. mount.new.state.ring.claims
         ≡ without_claim (with_claim mount.old.state.ring.claims r.0 1000) r.0 1000) }
-    ensures told { IfSome result (λ r. ReportsClaims mount.new.state.ring.claims 1000 (KeyStatus r.0) r.1) }
+    ensures reported { IfSome result (λ r. ReportsClaims mount.new.state.ring.claims 1000 (KeyStatus r.0) r.1) }
     ensures absent { IfSome result (λ r. AbsentHoldsNothing mount.new.state (KeyStatus r.0) r.1) }
 {
     let id = fill(alloc, mount, raw, nonces)?;
@@ -73,7 +73,7 @@ fn fill(alloc: Global, mount: &mut Mount, raw: &[u8], nonces: &[[u8; 16]; 3]) ->
 fn lock(mount: &mut Mount, id: KeyId) -> Option<Reply>
     ensures claims { IfSome result (λ _. mount.new.state.ring.claims
         ≡ without_claim mount.old.state.ring.claims id 1000) }
-    ensures told { IfSome result
+    ensures reported { IfSome result
         (λ reply. ReportsClaims mount.new.state.ring.claims 1000 (KeyStatus id) reply) }
     ensures absent { IfSome result (λ reply. AbsentHoldsNothing mount.new.state (KeyStatus id) reply) }
 {
@@ -149,7 +149,7 @@ fn policy_of(id: KeyId) -> Policy {
 fn ask(mount: &mut Mount, op: Op) -> Option<Reply>
     ensures claims { IfSome result (λ reply. mount.new.state.ring.claims ≡ claims_after_entry
         mount.old.state.ring.claims (entry 0 (record { uid = 1000; op = op }) reply)) }
-    ensures told { IfSome result (λ reply. ReportsClaims mount.old.state.ring.claims 1000 op reply) }
+    ensures reported { IfSome result (λ reply. ReportsClaims mount.old.state.ring.claims 1000 op reply) }
     ensures absent { IfSome result (λ reply. AbsentHoldsNothing mount.new.state op reply) }
 {
     let call = Call { uid: 1000, op };

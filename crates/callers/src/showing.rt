@@ -11,7 +11,7 @@ use name_crypt::{NameCipher, NoKeyText, Plain, PlainFault, Steps, nokey_text};
 use policy_ctx::Pad;
 use std::sync::ledger::Ledger;
 
-/// Returns the text by which a directory shows the name if its key is absent. Returns the error of
+/// Returns the no-key text of a name: a directory shows it if its key is absent. Returns the error of
 /// `Plain::read` exactly when that has one.
 pub fn visible_name_of<L: Ledger>(
     key: &[u8; 32],

@@ -45,7 +45,7 @@ where
     ensures own { OnOk result (
         entries_by pass.old.who pass.new.seen ≡ past_of pass.old pass.old.who ++ pass.new.mine) }
     ensures worn { IsErr result ↔ (pass.old.left < 2) }
-    ensures told { IfErr result (λ worn. (pass.new.left ≡ 0) × (worn.made ≡ length pass.new.mine)) }
+    ensures exhausted { IfErr result (λ worn. (pass.new.left ≡ 0) × (worn.made ≡ length pass.new.mine)) }
     ensures none { pass.old.left ≡ 0 → pass.new ≡ pass.old }
     ensures one { pass.old.left ≡ 1 → (place : ℕ) × (reply : M.Reply)
         × IsMadeAt pass.old pass.new place (entry pass.old.who first.now reply) }

@@ -16,7 +16,7 @@ use session_records::{ExpectedReply, Stop, derived_nonce, node_policy};
 use short_bytes::Label;
 
 impl<'a, S> Work<'a, S> {
-    // Encrypts a directory from now on, under a policy and a derived nonce.
+    // Sets the policy on an empty directory, with a derived nonce.
     pub(crate) fn encrypt<P: MountPort>(
         &self,
         caller: &mut Caller<P>,

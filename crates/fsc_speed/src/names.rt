@@ -43,7 +43,7 @@ fn nonce_after(key: &PreparedKey, nonce: &[u8; 16]) -> [u8; 16]
     next
 }
 
-/// Derives the mode key for contents of a raw key, which is the next raw key, repeatedly.
+/// Derives the mode key for contents of a raw key, repeatedly: each result is the next raw key.
 #[tactic(auto, using(crate::proofs::Repeating::iterate_more))]
 pub(crate) fn derive_mode_keys(count: u32) -> [u8; 32]
     ensures { result ≡ sha256 (iterate next_raw count (replicate 64 90)) }

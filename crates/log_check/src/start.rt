@@ -42,7 +42,7 @@ pub(crate) fn forget_callers(alloc: Global, callers: Vec<Caller<'_>>) {
     }
 }
 
-// The callers, each with its own way.
+// Returns the callers at their first calls, each with its own way to stretch.
 pub(crate) fn begin_callers<'a, 'w, S: Stretch>(
     alloc: Global,
     ways: &[Remembering<'w, S>],

@@ -41,7 +41,8 @@ meta-put policy/old 0 \
 mkdir /e
 ";
 
-// How many calls they make on the far mount and on the own one, and their notes.
+// How many calls the commands before a tested one make on the far mount and on the own one, and how many
+// notes they have.
 const FAR_BEFORE: u64 = 6;
 
 const OWN_BEFORE: u64 = 16;

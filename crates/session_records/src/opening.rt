@@ -68,7 +68,7 @@ pub fn only_passphrases_are_stretched()
     ensures kind { OtherKindsAreNotStretched }
 {}
 
-// A protector opened with a secret. Wipes the wrapping key.
+// Returns the protector opened with the secret. Wipes the wrapping key.
 fn protector_by<S: Stretch>(
     alloc: Global,
     stretches: &S,

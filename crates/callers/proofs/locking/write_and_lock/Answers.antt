@@ -13,12 +13,12 @@ returns-clause-claims c =
     ∙ ap (λ (claims : ClaimSet). without_claim (with_claim claims id 1000) id 1000) began
     ∙ without-with_claim no_claims id 1000 (has_claim-none id 1000)
 
-pub returns-clause-told : goal.returns-clause-told
-returns-clause-told c =
+pub returns-clause-reported : goal.returns-clause-reported
+returns-clause-reported c =
     let id = c.in_ok-id.id in
     let began : c.in_ok-mount.mount.state.ring.claims ≡ no_claims = search rules in
-    subst (λ (claims : ClaimSet). ReportsClaims claims 1000 (KeyStatus id) c.in_ok-id.told)
+    subst (λ (claims : ClaimSet). ReportsClaims claims 1000 (KeyStatus id) c.in_ok-id.status)
     (c.in_ok-id.ensures.claims
     ∙ ap (λ (claims : ClaimSet). without_claim (with_claim claims id 1000) id 1000) began
     ∙ without-with_claim no_claims id 1000 (has_claim-none id 1000))
-    c.in_ok-id.ensures.told
+    c.in_ok-id.ensures.reported
