@@ -63,7 +63,10 @@ pub fn run_linked_in_threads<
 }
 
 // A run without callers: nothing is shared, and no thread starts.
-fn run_no_caller<M: MountMachine, N: MountMachine>(alloc: Global, mounts: Mounts<M, N>) -> LinkedOutput
+fn run_no_caller<M: MountMachine, N: MountMachine>(
+    alloc: Global,
+    mounts: Mounts<M, N>,
+) -> LinkedOutput
     requires even { M.reaches [] mounts.even }
     requires odd { N.reaches [] mounts.odd }
     ensures none { (result.even.items ≡ []) × (result.odd.items ≡ []) × (result.notes.items ≡ []) }

@@ -125,5 +125,8 @@ pub(crate) static KERNELS: [(&str, MountKernel); 14] = [
     ("write-1", MountKernel::Alone(ONE_BLOCK, WRITE_ONE)),
     ("open-close", MountKernel::Alone(ONE, Run::OpenClose)),
     ("status-4096", MountKernel::Alone(ALL_OPEN, TELL_STATUS)),
-    ("status-again", MountKernel::Alone(ALL_OPEN, Run::StatusAgain)),
+    (
+        "status-again",
+        MountKernel::Alone(ALL_OPEN, Run::StatusAgain),
+    ),
 ];
