@@ -14,3 +14,4 @@ pub mod CachedLemmas
 pub mod WalkLemmas
 pub mod PassedLemmas
 pub mod OrderLemmas
+pub mod PassedEntryLemmas

@@ -16,3 +16,4 @@ pub mod SameBut
 pub mod SameButCaches
 pub mod AnswerOf
 pub mod PassedNodes
+pub mod PassedEntries

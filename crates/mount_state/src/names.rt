@@ -8,6 +8,7 @@ ghost use Rattle.disk_tree.specs.DiskTree.{IsDirAt};
 ghost use Rattle.mount_state.specs.CachedNames.{FillsNames};
 ghost use Rattle.mount_state.specs.Contexts.{context_on_disk};
 ghost use Rattle.mount_state.specs.KeyUse.{is_unlocked};
+ghost use Rattle.mount_state.specs.PassedEntries.{CachesOnly, found_entry};
 ghost use Rattle.mount_state.specs.Resolution.{Resolves};
 ghost use Rattle.mount_state.specs.SameButCaches.{SameButCaches, StaysFor};
 
@@ -19,7 +20,7 @@ use std::sync::ledger::Ledger;
 
 // Returns the node that the part resolves to in a directory with a policy: the one that is cached for the
 // name, otherwise the one that is found. If the latter is found under the directory's key, it is then
-// cached, and so is that key if there is memory.
+// cached, and so is that key if there is memory. No other name is cached that was not.
 pub(crate) fn resolved_number<L: Ledger>(
     alloc: Global,
     state: &mut MountState,
@@ -38,6 +39,7 @@ pub(crate) fn resolved_number<L: Ledger>(
         → steps.new ≡ steps.old }
     ensures filled { IfSome result (FillsNames state.old.disk state.old.ring.claims state.old.handles.live
         state.old.names state.new.names dir part.now) }
+    ensures brought { CachesOnly state.old.names state.new.names (found_entry dir part.now result) }
 {
     if let Some(number) = state.names.find(dir, part) {
         return Some(number);

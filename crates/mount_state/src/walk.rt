@@ -2,15 +2,17 @@
 
 ghost use Rattle.std.specs.Prelude.{◌≡◌, ◌+◌, ◌-◌, ◌≤◌, false, None, Ok, Err, take, length};
 ghost use Rattle.std.specs.Prelude.{IfErr, IfOk, IsSome, OnOk};
+ghost use Rattle.std.specs.Result.{result_ok};
 ghost use Rattle.number_map.specs.Numbered as map;
 ghost use Rattle.dentry_cache.specs.Names.{cached_node};
 ghost use Rattle.disk_tree.specs.DiskTree.{IsDirAt};
 ghost use Rattle.mount_model.specs.PlainMount.{PlainMount};
 ghost use Rattle.mount_model.specs.Walk.{looked_in, walk_step, walk_path};
-ghost use Rattle.mount_model.specs.EntryPaths.{parent, last_part, is_at_or_above};
+ghost use Rattle.mount_model.specs.EntryPaths.{parent, parent_parts, last_part, is_at_or_above};
 ghost use Rattle.mount_state.specs.CachedNames.{FillsNames};
 ghost use Rattle.mount_state.specs.Contexts.{context_on_disk};
 ghost use Rattle.mount_state.specs.KeyUse.{is_unlocked};
+ghost use Rattle.mount_state.specs.PassedEntries.{CachesOnly, CachesPassed, found_entry};
 ghost use Rattle.mount_state.specs.PassedNodes.{passes, with_past};
 ghost use Rattle.mount_state.specs.SameButCaches.{SameButCaches, StaysFor};
 ghost use Rattle.mount_state.specs.Represents.{Represents};
@@ -30,7 +32,8 @@ use std::sync::ledger::Ledger;
 /// NotDir if the number is no directory's, then NameTooLong for a part of more than `MAX_NAME_BYTES`
 /// bytes, then NotFound. At most one name is encrypted, and none if the name is cached or the key is
 /// absent. Nothing is decrypted. A name that resolves to a node in a keyed directory with a policy is
-/// cached from then on. If there is no memory for that, the failure is counted.
+/// cached from then on. If there is no memory for that, the failure is counted. No other name is cached
+/// that was not.
 pub fn entry_of<L: Ledger>(
     alloc: Global,
     state: &mut MountState,
@@ -47,6 +50,7 @@ pub fn entry_of<L: Ledger>(
         → steps.new ≡ steps.old }
     ensures filled { IfOk result (FillsNames state.old.disk state.old.ring.claims state.old.handles.live
         state.old.names state.new.names dir part.now) }
+    ensures brought { CachesOnly state.old.names state.new.names (found_entry dir part.now (result_ok result)) }
 {
     match directory_for(state, dir, part) {
         Ok(true) => resolved_number(alloc, state, dir, part, steps).ok_or(Refusal::NotFound),
@@ -58,7 +62,7 @@ pub fn entry_of<L: Ledger>(
 }
 
 /// Returns the node that the path resolves to from the root. Refused as its first refused part is. At most
-/// one name is encrypted for each part.
+/// one name is encrypted for each part. Only entries that the walk passes may be cached and were not.
 pub fn walked_node<L: Ledger>(
     alloc: Global,
     state: &mut MountState,
@@ -69,13 +73,15 @@ pub fn walked_node<L: Ledger>(
     ensures represents { StaysFor state.old state.new }
     ensures same { SameButCaches state.old state.new }
     ensures ticks { steps.new ≤ steps.old + length path.now }
+    ensures brought { CachesPassed state.old state.new path.now }
 {
     walked_parts(alloc, state, path, path.len(), steps)
 }
 
 /// The directory in which the path's last part is to be looked up. Refused as the parts before it are,
 /// then NotDir, then NameTooLong for the last one. A path with no part is taken for one with an empty
-/// part. At most one name is encrypted for each part but the last.
+/// part. At most one name is encrypted for each part but the last. Only entries that the walk to the
+/// directory passes may be cached and were not.
 pub fn walked_parent<L: Ledger>(
     alloc: Global,
     state: &mut MountState,
@@ -87,6 +93,7 @@ pub fn walked_parent<L: Ledger>(
     ensures represents { StaysFor state.old state.new }
     ensures same { SameButCaches state.old state.new }
     ensures ticks { steps.new ≤ steps.old + (length path.now - 1) }
+    ensures brought { CachesPassed state.old state.new (parent_parts path.now) }
 {
     let before = path.len().saturating_sub(1);
     match walked_parts(alloc, state, path, before, steps) {
@@ -109,6 +116,7 @@ pub fn walk_parent_past<L: Ledger>(
     ensures represents { StaysFor state.old state.new }
     ensures same { SameButCaches state.old state.new }
     ensures ticks { steps.new ≤ steps.old + (length path.now - 1) }
+    ensures brought { CachesPassed state.old state.new (parent_parts path.now) }
 {
     let before = path.len().saturating_sub(1);
     match walked_past(alloc, state, path, before, node, steps) {
@@ -146,6 +154,7 @@ fn walked_past<L: Ledger>(
     ensures represents { StaysFor state.old state.new }
     ensures same { SameButCaches state.old state.new }
     ensures ticks { steps.new ≤ steps.old + count }
+    ensures brought { CachesPassed state.old state.new (take count path.now) }
 {
     let mut at = 0;
     let mut past = false;
@@ -177,6 +186,7 @@ fn walked_parts<L: Ledger>(
     ensures represents { StaysFor state.old state.new }
     ensures same { SameButCaches state.old state.new }
     ensures ticks { steps.new ≤ steps.old + count }
+    ensures brought { CachesPassed state.old state.new (take count path.now) }
 {
     let mut node = 0;
     for i in 0..count {
@@ -204,6 +214,7 @@ fn directory_kept(
     ensures short { OnOk result (length part.now ≤ MAX_NAME_BYTES) }
     ensures represents { StaysFor state.old state.new }
     ensures same { SameButCaches state.old state.new }
+    ensures names { state.new.names ≡ state.old.names }
 {
     match directory_for(state, dir, part) {
         Ok(true) => {

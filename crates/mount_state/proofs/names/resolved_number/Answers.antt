@@ -1,10 +1,11 @@
 -- A cached name resolves as the mount's entry does, and a newly cached one resolves to the node that was
 -- found.
-use Rattle.std.proofs.Common.{rules, ◌≡◌, Some, refl, sym, subst, ◌∙◌}
+use Rattle.std.proofs.Common.{rules, ◌≡◌, Some, inl, refl, sym, subst, ◌∙◌}
 use Rattle.dentry_cache.specs.Names.{key_of}
 use Rattle.disk_tree.specs.DiskTree.{Disk, IsDirAt}
 use Rattle.plain_tree.specs.NodesByNumber.{entry}
 use Rattle.mount_state.proofs.CachedLemmas.{forget_beside, stand_beside, fewer_names_stand, pair_of, keyed_led, dir_told, dir_stands}
+use Rattle.mount_state.proofs.PassedEntryLemmas.{same_names, one_cached}
 use Rattle.mount_state.proofs.StandLemmas.{keyed_stands}
 use Rattle.mount_state.proofs.names.resolved_number.Goals as goal
 
@@ -16,6 +17,9 @@ returns-in-Some-clause-found g c = λ m st dir.
     sym (st.names.entries (key_of c.args.dir c.args.part.now, c.in-Some.number) there)
     ∙ keyed_led m c.args.dir c.args.part.now (sym keyed ∙ s.remembers.keyed (key_of c.args.dir c.args.part.now, c.in-Some.number) there)
 
+pub returns-in-Some-clause-brought : goal.returns-in-Some-clause-brought
+returns-in-Some-clause-brought g c = λ pair is. inl (c.find.ensures.no_more pair is)
+
 -- ---- a name that isn't cached
 
 pub returns-in_err-number-clause-represents : goal.returns-in_err-number-clause-represents
@@ -25,6 +29,12 @@ pub returns-in_err-number-clause-found : goal.returns-in_err-number-clause-found
 returns-in_err-number-clause-found g c = λ m st dir.
     let none : c.from_residual.result ≡ c.number_of-found.result.0 = search rules in
     none ∙ c.number_of-found.ensures.found m (c.cache_key.ensures.represents m (fewer_names_stand c.args.state.now _ (record { disk = refl; next_node = refl; ring = refl; meta = refl; keys = refl; pins = refl; handles = refl; modes = refl; names = tt }) c.find.ensures.no_more m st)) dir
+
+pub returns-in_err-number-clause-brought : goal.returns-in_err-number-clause-brought
+returns-in_err-number-clause-brought g c = λ pair is. inl (c.find.ensures.no_more pair (same_names _ _ c.cache_key.ensures.names pair is))
+
+pub returns-then-not-by_key-clause-brought : goal.returns-then-not-by_key-clause-brought
+returns-then-not-by_key-clause-brought g c = λ pair is. inl (c.find.ensures.no_more pair (same_names _ _ c.cache_key.ensures.names pair is))
 
 pub returns-then-not-by_key-clause-represents : goal.returns-then-not-by_key-clause-represents
 returns-then-not-by_key-clause-represents g c = λ m st. c.cache_key.ensures.represents m (fewer_names_stand c.args.state.now _ (record { disk = refl; next_node = refl; ring = refl; meta = refl; keys = refl; pins = refl; handles = refl; modes = refl; names = tt }) c.find.ensures.no_more m st)
@@ -52,6 +62,11 @@ pub returns-clause-found : goal.returns-clause-found
 returns-clause-found g c = λ m st dir.
     let some : Some c.in_ok-number.number ≡ c.number_of-found.result.0 = search rules in
     some ∙ c.number_of-found.ensures.found m (c.cache_key.ensures.represents m (fewer_names_stand c.args.state.now _ (record { disk = refl; next_node = refl; ring = refl; meta = refl; keys = refl; pins = refl; handles = refl; modes = refl; names = tt }) c.find.ensures.no_more m st)) dir
+
+pub returns-clause-brought : goal.returns-clause-brought
+returns-clause-brought g c =
+    one_cached c.args.state.now.names c.cache_key.new.state.names c.keep.new.self (key_of c.args.dir c.args.part.now, c.in_ok-number.number)
+    (λ pair is. c.find.ensures.no_more pair (same_names _ _ c.cache_key.ensures.names pair is)) c.keep.ensures.beside
 
 pub returns-clause-represents : goal.returns-clause-represents
 returns-clause-represents g c = λ m st.
