@@ -9,6 +9,7 @@ ghost use Rattle.mount_model.specs.OpenHandles.{opens_of};
 ghost use Rattle.mount_state.specs.AnswerOf.{IsAnswerOrNoMemory};
 ghost use Rattle.mount_state.specs.Handles.{is_full};
 ghost use Rattle.mount_state.specs.KeyUse.{is_unlocked};
+ghost use Rattle.mount_state.specs.PassedEntries.{CachesPassed};
 ghost use Rattle.mount_state.specs.SameButCaches.{SameButCaches};
 ghost use Rattle.mount_state.specs.Represents.{Represents};
 ghost use Rattle.mount_state.specs.CachedKeys.{RepresentsCaches};
@@ -48,6 +49,7 @@ pub fn open_node<L: Ledger>(
     ensures refused { is_refused result ≡ true → SameButCaches state.old state.new }
     ensures same { SameButOpen state.old state.new }
     ensures ticks { steps.new ≤ steps.old + length path.now }
+    ensures brought { CachesPassed state.old state.new path.now }
 {
     match walked_node(alloc, state, path, steps) {
         Ok(node) => open_at(alloc, state, caller, node),
@@ -64,6 +66,7 @@ fn open_at(alloc: Global, state: &mut MountState, caller: u32, node: u32) -> Rep
     ensures opened { is_refused result ≡ false → OpensWithNextHandle state.old state.new caller result }
     ensures refused { is_refused result ≡ true → SameButCaches state.old state.new }
     ensures same { SameButOpen state.old state.new }
+    ensures names { state.new.names ≡ state.old.names }
 {
     let Some(stored) = state.disk.node(node) else {
         return Reply::Refused(Refusal::NotFound);

@@ -9,7 +9,8 @@ ghost use Rattle.plain_tree.specs.NodesByNumber.{is_dir_at};
 ghost use Rattle.mount_model.specs.PlainMount.{PlainMount};
 ghost use Rattle.mount_model.specs.States.{is_keyed};
 ghost use Rattle.mount_model.specs.Walk.{visible_entry};
-ghost use Rattle.mount_model.specs.EntryPaths.{last_part};
+ghost use Rattle.mount_model.specs.EntryPaths.{last_part, parent_parts};
+ghost use Rattle.mount_state.specs.PassedEntries.{CachesPassed};
 ghost use Rattle.mount_state.specs.Resolution.{is_text_of};
 ghost use Rattle.mount_state.specs.SameButCaches.{SameButCaches, StaysFor};
 ghost use Rattle.mount_state.specs.Represents.{Represents};
@@ -61,6 +62,7 @@ pub(crate) fn entry_at<'a, L: Ledger>(
     ensures represents { StaysFor state.old state.new }
     ensures same { SameButCaches state.old state.new }
     ensures ticks { steps.new ≤ steps.old + length path.now }
+    ensures brought { CachesPassed state.old state.new (parent_parts path.now) }
 {
     match walked_parent(alloc, state, path, steps) {
         Ok(dir) => entry_in(state, dir, last_bytes(path), by_name, room, steps),

@@ -5,6 +5,7 @@ ghost use Rattle.std.specs.List.{AllZip};
 ghost use Rattle.mount_model.specs.ListAnswers.{answer_to_list, page_at};
 ghost use Rattle.mount_model.specs.PlainMount.{PlainMount};
 ghost use Rattle.mount_state.specs.AnswerOf.{IsAnswerOrNoMemory, IsReplyOrNoMemory, IsExpectedRefusal};
+ghost use Rattle.mount_state.specs.PassedEntries.{CachesPassed};
 ghost use Rattle.mount_state.specs.SameButCaches.{SameButCaches};
 ghost use Rattle.mount_state.specs.Represents.{Represents};
 ghost use Rattle.mount_names.specs.NamePages.{names_of, IsPageOf};
@@ -40,6 +41,7 @@ pub fn list<L: Ledger>(
         → IsExpectedRefusal (answer_to_list m path.now start) result }
     ensures same { SameButCaches state.old state.new }
     ensures ticks { steps.new ≤ steps.old + length path.now }
+    ensures brought { CachesPassed state.old state.new path.now }
 {
     match walked_node(alloc, state, path, steps) {
         Ok(number) => page_reply(alloc, state, number, start),

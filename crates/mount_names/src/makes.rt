@@ -7,9 +7,11 @@ ghost use Rattle.disk_tree.specs.DiskTree.{IsDirAt};
 ghost use Rattle.disk_tree.specs.Nodes.{blocks_of};
 ghost use Rattle.mount_model.specs.Carried.{IsPath};
 ghost use Rattle.mount_model.specs.ClaimHistory.{is_refused};
+ghost use Rattle.mount_model.specs.EntryPaths.{parent_parts};
 ghost use Rattle.mount_model.specs.NameAnswers.{answer_to_make};
 ghost use Rattle.mount_model.specs.NewNodes.{inherited_context};
 ghost use Rattle.mount_model.specs.PlainMount.{PlainMount};
+ghost use Rattle.mount_state.specs.PassedEntries.{CachesPassed};
 ghost use Rattle.mount_state.specs.SameButCaches.{SameButCaches};
 ghost use Rattle.mount_state.specs.Represents.{Represents};
 ghost use Rattle.mount_state.specs.AnswerOf.{IsAnswerOrNoMemory, IsExpectedRefusal};
@@ -44,6 +46,7 @@ pub fn mkdir<L: Ledger>(
     ensures refused { is_refused result ≡ true → SameButCaches state.old state.new }
     ensures same { SameButTree state.old state.new }
     ensures ticks { steps.new ≤ steps.old + length path.now }
+    ensures brought { CachesPassed state.old state.new (parent_parts path.now) }
 {
     let mut room = [0; MAX_NAME_BYTES];
     match place_at(alloc, state, path, false, &mut room, steps) {
@@ -67,6 +70,7 @@ pub fn create<L: Ledger>(
     ensures refused { is_refused result ≡ true → SameButCaches state.old state.new }
     ensures same { SameButTree state.old state.new }
     ensures ticks { steps.new ≤ steps.old + length path.now }
+    ensures brought { CachesPassed state.old state.new (parent_parts path.now) }
 {
     let mut room = [0; MAX_NAME_BYTES];
     match place_at(alloc, state, path, false, &mut room, steps) {
@@ -106,6 +110,7 @@ pub(crate) fn make(
     ensures represents { MakesAt state.old state.new place.now nonce.now body result }
     ensures refused { is_refused result ≡ true → SameButCaches state.old state.new }
     ensures same { SameButTree state.old state.new }
+    ensures names { state.new.names ≡ state.old.names }
 {
     let number = state.next_node;
     let node = StoredNode {

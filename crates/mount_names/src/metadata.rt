@@ -9,6 +9,7 @@ ghost use Rattle.mount_model.specs.LookAnswers as look;
 ghost use Rattle.mount_model.specs.LookAnswers.{answer_to_stat};
 ghost use Rattle.mount_model.specs.PolicyAnswers as policy;
 ghost use Rattle.mount_model.specs.PolicyAnswers.{answer_to_get_policy};
+ghost use Rattle.mount_state.specs.PassedEntries.{CachesPassed};
 ghost use Rattle.mount_state.specs.SameButCaches.{SameButCaches};
 ghost use Rattle.mount_state.specs.Represents.{Represents};
 ghost use Rattle.mount_state.specs.Stored.{stored_body};
@@ -39,6 +40,7 @@ pub fn stat<L: Ledger>(
         → IsAnswerOf (answer_to_stat m path.now) result state.new }
     ensures same { SameButCaches state.old state.new }
     ensures ticks { steps.new ≤ steps.old + length path.now }
+    ensures brought { CachesPassed state.old state.new path.now }
 {
     match walked_node(alloc, state, path, steps) {
         Ok(number) => stat_answer(state, number),
@@ -60,6 +62,7 @@ pub fn get_policy<L: Ledger>(
         → IsAnswerOf (answer_to_get_policy m path.now) result state.new }
     ensures same { SameButCaches state.old state.new }
     ensures ticks { steps.new ≤ steps.old + length path.now }
+    ensures brought { CachesPassed state.old state.new path.now }
 {
     match walked_node(alloc, state, path, steps) {
         Ok(number) => policy_answer(state, number),

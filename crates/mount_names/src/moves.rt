@@ -1,13 +1,16 @@
 //! The call that moves a name: within a directory, or to another one.
 
-ghost use Rattle.std.specs.Prelude.{◌≡◌, ◌+◌, ◌≤◌, true, length, IfErr, IfOk};
+ghost use Rattle.std.specs.Prelude.{◌≡◌, ◌+◌, ◌≤◌, ◌++◌, true, length, IfErr, IfOk};
+ghost use Rattle.dentry_cache.specs.HeldNames.{HoldsNoMore};
 ghost use Rattle.disk_tree.specs.DiskTree.{IsDirAt};
 ghost use Rattle.plain_tree.specs.Nodes.{Name};
 ghost use Rattle.mount_model.specs.Carried.{IsPath};
 ghost use Rattle.mount_model.specs.ClaimHistory.{is_refused};
+ghost use Rattle.mount_model.specs.EntryPaths.{parent_parts};
 ghost use Rattle.mount_model.specs.PlainMount.{PlainMount};
 ghost use Rattle.mount_model.specs.AnswerForms.{refusal_with};
 ghost use Rattle.mount_model.specs.RenameAnswer.{answer_to_move_from, answer_to_rename};
+ghost use Rattle.mount_state.specs.PassedEntries.{CachesOnly, CachesPassed, passed_entries};
 ghost use Rattle.mount_state.specs.SameButCaches.{SameButCaches, StaysFor};
 ghost use Rattle.mount_state.specs.Represents.{Represents};
 ghost use Rattle.mount_names.specs.FoundEntries.{IsEntryOn};
@@ -54,6 +57,8 @@ pub fn rename<L: Ledger>(
     ensures refused { is_refused result ≡ true → SameButCaches state.old state.new }
     ensures same { SameButTree state.old state.new }
     ensures ticks { steps.new ≤ steps.old + length old_path.now + length new_path.now }
+    ensures brought { (m : PlainMount) → Represents state.old m → CachesOnly state.old.names state.new.names
+        (passed_entries m 0 (parent_parts old_path.now) ++ passed_entries m 0 (parent_parts new_path.now)) }
 {
     if old_path.is_empty() || new_path.is_empty() {
         return Reply::Refused(Refusal::Inval);
@@ -82,6 +87,7 @@ fn rename_entry<L: Ledger>(
     ensures refused { is_refused result ≡ true → SameButCaches state.old state.new }
     ensures same { SameButTree state.old state.new }
     ensures ticks { steps.new ≤ steps.old + length new_path.now }
+    ensures brought { CachesPassed state.old state.new (parent_parts new_path.now) }
 {
     let mut room = [0; MAX_NAME_BYTES];
     match target_at(alloc, state, entry, new_path, &mut room, steps) {
@@ -110,6 +116,7 @@ fn target_at<'a, L: Ledger>(
     ensures represents { StaysFor state.old state.new }
     ensures same { SameButCaches state.old state.new }
     ensures ticks { steps.new ≤ steps.old + length path.now }
+    ensures brought { CachesPassed state.old state.new (parent_parts path.now) }
 {
     match walk_parent_past(alloc, state, path, entry.number, steps) {
         Ok((dir, past)) => target_in(state, entry, dir, past, last_bytes(path), room, steps),
@@ -132,6 +139,7 @@ fn move_to(
     ensures represents { Moves state.old state.new entry.now part.now place.now result }
     ensures refused { is_refused result ≡ true → SameButCaches state.old state.new }
     ensures same { SameButTree state.old state.new }
+    ensures no_more { HoldsNoMore state.old.names state.new.names }
 {
     match state
         .disk

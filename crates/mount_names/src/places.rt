@@ -7,9 +7,11 @@ ghost use Rattle.plain_tree.specs.Nodes.{Name};
 ghost use Rattle.plain_tree.specs.NodesByNumber.{children, entry, is_dir_at};
 ghost use Rattle.mount_model.specs.Carried.{IsPath};
 ghost use Rattle.mount_model.specs.EncryptedNames as encrypted;
+ghost use Rattle.mount_model.specs.EntryPaths.{parent_parts};
 ghost use Rattle.mount_model.specs.NameAnswers as plain;
 ghost use Rattle.mount_model.specs.PlainMount.{PlainMount};
 ghost use Rattle.mount_model.specs.SoundNodes.{IsName};
+ghost use Rattle.mount_state.specs.PassedEntries.{CachesPassed};
 ghost use Rattle.mount_state.specs.SameButCaches.{SameButCaches, StaysFor};
 ghost use Rattle.mount_state.specs.Represents.{Represents};
 ghost use Rattle.mount_names.specs.NewEntries.{IsPlaceRefused, IsRefusedIn};
@@ -64,6 +66,7 @@ pub(crate) fn place_at<'a, L: Ledger>(
     ensures represents { StaysFor state.old state.new }
     ensures same { SameButCaches state.old state.new }
     ensures ticks { steps.new ≤ steps.old + length path.now }
+    ensures brought { CachesPassed state.old state.new (parent_parts path.now) }
 {
     if path.is_empty() {
         return Err(Refusal::Exists);

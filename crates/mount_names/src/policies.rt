@@ -15,6 +15,7 @@ ghost use Rattle.mount_model.specs.PolicyAnswers.{answer_to_set_at, answer_to_se
 ghost use Rattle.mount_model.specs.SpelledPolicy.{is_same_policy};
 ghost use Rattle.mount_state.specs.Contexts.{context_on_disk};
 ghost use Rattle.mount_state.specs.AnswerOf.{IsAnswerOrNoMemory, IsExpectedRefusal};
+ghost use Rattle.mount_state.specs.PassedEntries.{CachesPassed};
 ghost use Rattle.mount_state.specs.SameButCaches.{SameButCaches};
 ghost use Rattle.mount_state.specs.Represents.{Represents};
 ghost use Rattle.mount_names.specs.EncryptedDirs.{EncryptsAt, EncryptsOpen, SetsAt, keys_with, modes_with};
@@ -57,6 +58,7 @@ pub fn set_policy<L: Ledger>(
     ensures refused { is_refused result ≡ true → SameButCaches state.old state.new }
     ensures same { SameButPolicies state.old state.new }
     ensures ticks { steps.new ≤ steps.old + length path.now }
+    ensures brought { CachesPassed state.old state.new path.now }
 {
     match walked_node(alloc, state, path, steps) {
         Ok(number) => set_at(alloc, state, uid, number, policy, nonce),
@@ -78,6 +80,7 @@ fn set_at(
         → IsExpectedRefusal (answer_to_set_at m uid policy.now nonce.now number) result }
     ensures refused { is_refused result ≡ true → SameButCaches state.old state.new }
     ensures same { SameButPolicies state.old state.new }
+    ensures names { state.new.names ≡ state.old.names }
 {
     if !state.disk.is_dir(number) {
         return Reply::Refused(Refusal::NotDir);
@@ -129,6 +132,7 @@ fn encrypt(alloc: Global, state: &mut MountState, uid: u32, dir: u32, context: &
         → IsExpectedRefusal (policy.answer_to_encrypt m uid dir context.now None) result }
     ensures refused { is_refused result ≡ true → SameButCaches state.old state.new }
     ensures same { SameButPolicies state.old state.new }
+    ensures names { state.new.names ≡ state.old.names }
 {
     if state.disk.entry_count(dir) > 0 {
         return Reply::Refused(Refusal::NotEmpty);
@@ -161,6 +165,7 @@ fn encrypt_open(
     ensures represents { EncryptsOpen state.old state.new dir context.now result }
     ensures refused { is_refused result ≡ true → SameButCaches state.old state.new }
     ensures same { SameButPolicies state.old state.new }
+    ensures names { state.new.names ≡ state.old.names }
 {
     let Some(key) = derived_file_key(state, context) else {
         return Reply::Refused(Refusal::NoKey);

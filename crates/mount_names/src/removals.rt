@@ -1,11 +1,13 @@
 //! The calls that take a name away: of a file or a symlink, and of an empty directory.
 
 ghost use Rattle.std.specs.Prelude.{◌≡◌, ◌+◌, ◌≤◌, true, false, length};
-ghost use Rattle.dentry_cache.specs.HeldNames.{HoldsNoneIn};
+ghost use Rattle.dentry_cache.specs.HeldNames.{HoldsNoMore, HoldsNoneIn};
 ghost use Rattle.mount_model.specs.Carried.{IsPath};
 ghost use Rattle.mount_model.specs.ClaimHistory.{is_refused};
+ghost use Rattle.mount_model.specs.EntryPaths.{parent_parts};
 ghost use Rattle.mount_model.specs.UnlinkAnswers.{answer_to_unlink, answer_to_rmdir};
 ghost use Rattle.mount_model.specs.PlainMount.{PlainMount};
+ghost use Rattle.mount_state.specs.PassedEntries.{CachesPassed};
 ghost use Rattle.mount_state.specs.SameButCaches.{SameButCaches};
 ghost use Rattle.mount_state.specs.Represents.{Represents};
 ghost use Rattle.mount_names.specs.FoundEntries.{IsEntryOn};
@@ -37,6 +39,7 @@ pub fn unlink<L: Ledger>(
     ensures refused { is_refused result ≡ true → SameButCaches state.old state.new }
     ensures same { SameButTree state.old state.new }
     ensures ticks { steps.new ≤ steps.old + length path.now }
+    ensures brought { CachesPassed state.old state.new (parent_parts path.now) }
 {
     if path.is_empty() {
         return Reply::Refused(Refusal::IsDir);
@@ -63,6 +66,7 @@ pub fn rmdir<L: Ledger>(
     ensures refused { is_refused result ≡ true → SameButCaches state.old state.new }
     ensures same { SameButTree state.old state.new }
     ensures ticks { steps.new ≤ steps.old + length path.now }
+    ensures brought { CachesPassed state.old state.new (parent_parts path.now) }
 {
     if path.is_empty() {
         return Reply::Refused(Refusal::Inval);
@@ -81,6 +85,7 @@ fn unlink_entry(state: &mut MountState, entry: &Entry, part: &[u8]) -> Reply
     ensures represents { Unlinks state.old state.new entry.now part.now result }
     ensures refused { is_refused result ≡ true → SameButCaches state.old state.new }
     ensures same { SameButTree state.old state.new }
+    ensures no_more { HoldsNoMore state.old.names state.new.names }
 {
     if state.disk.is_dir(entry.number) {
         return Reply::Refused(Refusal::IsDir);
@@ -96,6 +101,7 @@ fn remove_dir(state: &mut MountState, entry: &Entry, part: &[u8]) -> Reply
     ensures represents { RemovesDir state.old state.new entry.now part.now result }
     ensures refused { is_refused result ≡ true → SameButCaches state.old state.new }
     ensures same { SameButTree state.old state.new }
+    ensures no_more { HoldsNoMore state.old.names state.new.names }
 {
     let Some(node) = state.disk.node(entry.number) else {
         return Reply::Refused(Refusal::NotDir);
@@ -119,6 +125,7 @@ fn drop_entry(state: &mut MountState, entry: &Entry, part: &[u8])
     requires none { HoldsNoneIn state.old.names entry.now.number }
     ensures represents { Drops state.old state.new entry.now part.now }
     ensures same { SameButTree state.old state.new }
+    ensures no_more { HoldsNoMore state.old.names state.new.names }
 {
     state.names.forget(entry.dir, part);
     let number = entry.number;

@@ -7,8 +7,10 @@ ghost use Rattle.mount_model.specs.Carried.{IsPath, IsTarget};
 ghost use Rattle.mount_model.specs.ClaimHistory.{is_refused};
 ghost use Rattle.mount_model.specs.NameAnswers.{answer_to_make};
 ghost use Rattle.mount_model.specs.EncryptedNames.{lacks_key};
+ghost use Rattle.mount_model.specs.EntryPaths.{parent_parts};
 ghost use Rattle.mount_model.specs.PlainMount.{PlainMount};
 ghost use Rattle.mount_state.specs.AnswerOf.{IsAnswerOrNoMemory, IsExpectedRefusal};
+ghost use Rattle.mount_state.specs.PassedEntries.{CachesPassed};
 ghost use Rattle.mount_state.specs.SameButCaches.{SameButCaches};
 ghost use Rattle.mount_state.specs.Represents.{Represents};
 ghost use Rattle.mount_state.specs.Stored.{stored_form};
@@ -49,6 +51,7 @@ pub fn symlink<L: Ledger>(
     ensures refused { is_refused result ≡ true → SameButCaches state.old state.new }
     ensures same { SameButTree state.old state.new }
     ensures ticks { steps.new ≤ steps.old + length path.now + 1 }
+    ensures brought { CachesPassed state.old state.new (parent_parts path.now) }
 {
     let long = target.len() > MAX_NAME_BYTES;
     let mut room = [0; MAX_NAME_BYTES];
@@ -72,6 +75,7 @@ fn link_at<L: Ledger>(
     ensures represents { LinksAt state.old state.new place.now nonce.now target.now result }
     ensures refused { is_refused result ≡ true → SameButCaches state.old state.new }
     ensures same { SameButTree state.old state.new }
+    ensures names { state.new.names ≡ state.old.names }
     ensures ticks { steps.new ≤ steps.old + 1 }
 {
     let Ok(plain) = Plain::read(target.as_slice()) else {

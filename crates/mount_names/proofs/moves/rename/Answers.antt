@@ -9,6 +9,10 @@ use Rattle.mount_names.proofs.GivenLemmas.{refused_so, due_refused, is_answer_by
 use Rattle.mount_names.proofs.MoveLemmas.{rename_is, source_refused, rename_well}
 use Rattle.mount_names.proofs.CachedStands.{found_by}
 use Rattle.mount_names.proofs.PlaceLemmas.{both_named}
+use Rattle.std.proofs.lemmas.List.Elements.{Contains-append_left, Contains-append_right}
+use Rattle.mount_model.specs.EntryPaths.{parent_parts}
+use Rattle.mount_state.specs.PassedEntries.{passed_entries}
+use Rattle.mount_state.proofs.PassedEntryLemmas.{cached_then, more_passed}
 use Rattle.mount_names.proofs.moves.rename.Goals as goal
 
 pub returns-in-Ok-clause-represents : goal.returns-in-Ok-clause-represents
@@ -46,3 +50,16 @@ returns-in-Err-clause-due g c = λ m st fits new_fits.
     let new_path = c.args.new_path.now in
     let named = both_named path new_path _ _ c.if-is_empty.false c.is_empty.ensures.1 c.if-is_empty-2.false c.is_empty-else-is_empty.ensures.1 in
     due_refused m (answer_to_rename m path new_path) c.in-Err.refusal (source_refused m path new_path named c.in-Err.refusal (c.in-Err.ensures.value m st))
+
+pub returns-in-Ok-clause-brought : goal.returns-in-Ok-clause-brought
+returns-in-Ok-clause-brought g c = λ m st.
+    let old = passed_entries m 0 (parent_parts c.args.old_path.now) in
+    let new = passed_entries m 0 (parent_parts c.args.new_path.now) in
+    cached_then _ _ _ old new _ (c.in-Ok.ensures.brought m st)
+    (c.rename_entry.ensures.brought m (c.in-Ok.ensures.represents m st)) (Contains-append_left old new) (Contains-append_right old new)
+
+pub returns-in-Err-clause-brought : goal.returns-in-Err-clause-brought
+returns-in-Err-clause-brought g c = λ m st.
+    let old = passed_entries m 0 (parent_parts c.args.old_path.now) in
+    let new = passed_entries m 0 (parent_parts c.args.new_path.now) in
+    more_passed _ _ old _ (c.in-Err.ensures.brought m st) (Contains-append_left old new)

@@ -32,3 +32,6 @@ returns-in-Err-clause-due g c = λ m name st fits of.
     let path = c.args.new_path.now in
     due_refused m (answer_to_move_from m path e.dir name e.number) c.in-Err.refusal
     (c.in-Err.ensures.refused m name st fits of)
+
+pub returns-in-Ok-clause-brought : goal.returns-in-Ok-clause-brought
+returns-in-Ok-clause-brought g c = λ m st pair is. c.in-Ok.ensures.brought m st pair (c.move_to.ensures.no_more pair is)

@@ -19,3 +19,6 @@ returns-in-Err-clause-represents g c = λ m st fits.
     let named = some_parts path c.is_empty.result c.if-is_empty.false c.is_empty.ensures.1 in
     refused_given m (answer_to_rmdir m path) c.in-Err.refusal
     (end_refused m path false c.in-Err.refusal (c.in-Err.ensures.value m st) (is_root path) named Inval (unlinked_dir m)) c.entry_at.new.state (c.in-Err.ensures.represents m st)
+
+pub returns-in-Ok-clause-brought : goal.returns-in-Ok-clause-brought
+returns-in-Ok-clause-brought g c = λ m st pair is. c.in-Ok.ensures.brought m st pair (c.remove_dir.ensures.no_more pair is)
