@@ -3,6 +3,7 @@
 use crate::asked::Asked;
 use crate::bad_line::{MAX_LINES_PRINTED, first_word, show_lines};
 use crate::commands::GROUPS;
+use crate::image_cause::show_image_line;
 use fsc_tool::Status;
 use script_faults::is_usable;
 use std::alloc::{AllocError, Global};
@@ -89,7 +90,7 @@ Example, where SEED is 64 hexadecimal digits:
 
 const NO_PARTING_LINE: &str = "no line --- is between the script and its log";
 
-const REFUSED: &str = "no run has a log that goes on so: places count from 0, a line each";
+const REFUSED: &str = "no run continues its log this way: entries are counted from 0, one a line";
 
 /// Returns what `--help` prints: the forms, each command, and the pages to read next.
 pub(crate) fn help_text(alloc: Global) -> Result<String, AllocError> {
@@ -156,10 +157,7 @@ pub(crate) fn advise(rt: &HostRuntime, asked: Asked, status: Status, text: Optio
 // Prints the remedy for the line of this number.
 fn advise_on_line(rt: &HostRuntime, asked: Asked, line: u32, text: Option<&[u8]>) {
     match asked {
-        Asked::Listing => remark(
-            rt,
-            "docs/FORMATS.md has the lines of an image, under Images",
-        ),
+        Asked::Listing => show_image_line(rt, text, line),
         Asked::Verdict => {
             let is_parted = is_parted(text);
             if !is_parted {

@@ -8,6 +8,8 @@ mod caused;
 mod commands;
 mod difference;
 mod help;
+mod image_cause;
+mod image_words;
 mod inspect_advice;
 mod kept;
 mod lines;
