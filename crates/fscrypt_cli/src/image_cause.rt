@@ -14,8 +14,9 @@ const BLOCK_MISSING: &str = "a block of the file before it is missing";
 // What is known of the lines before a line, as far as it determines which line may follow.
 #[derive(Clone, Copy)]
 struct Before {
-    // The last line of a node.
+    // The last line of a node, and its number.
     node: Option<NodeLine>,
+    number: u32,
     // The last entry after that line.
     entry: Option<EntryLine>,
     // The number of blocks after that line.
@@ -26,6 +27,7 @@ impl Before {
     // Adds the next line.
     fn pass(&mut self, line: &[u8]) {
         if let Some(node) = read_node_line(line) {
+            self.number = node.number;
             self.node = Some(node);
             self.entry = None;
             self.blocks = 0;
@@ -65,6 +67,7 @@ pub(crate) fn show_image_line(rt: &HostRuntime, text: Option<&[u8]>, number: u32
 fn cause_of_line(text: &[u8], number: u32) -> Option<&'static str> {
     let mut before = Before {
         node: None,
+        number: 0,
         entry: None,
         blocks: 0,
     };
@@ -131,12 +134,20 @@ fn cause_of_node(line: &[u8], before: &Before) -> Option<&'static str> {
     if before.lacks_block() {
         return Some(BLOCK_MISSING);
     }
+    let Some(number) = node_number(line) else {
+        return cause_of_node_words(line);
+    };
+    if number <= before.number {
+        return Some("the node's number is not greater than the one of the node before it");
+    }
+    None
+}
+
+// Returns the number of the node of this line, if it is a node's.
+fn node_number(line: &[u8]) -> Option<u32> {
     match read_node_line(line) {
-        Some(node) if node.number <= before.node?.number => Some(
-            "the node's number is not greater than the one of the node before it",
-        ),
-        Some(_) => None,
-        None => cause_of_node_words(line),
+        Some(node) => Some(node.number),
+        None => None,
     }
 }
 
@@ -171,13 +182,13 @@ fn cause_of_child(text: &[u8], child: u32) -> Option<&'static str> {
         return Some("the entry resolves to the root");
     }
     let mut rest = text;
-    while !rest.is_empty() {
+    for _ in 0..u64::MAX {
+        if rest.is_empty() {
+            break;
+        }
         let line = next_line(rest);
-        match read_node_line(line.bytes) {
-            Some(node) if node.number == child => {
-                return Some("an entry before it resolves to the same node");
-            }
-            _ => {}
+        if node_number(line.bytes) == Some(child) {
+            return Some("an entry before it resolves to the same node");
         }
         rest = line.rest;
     }
