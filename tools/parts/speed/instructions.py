@@ -69,3 +69,8 @@ class Counter:
         """The instructions of the calls of a function of the program in a run, or None if it has none."""
         counts = self.functions(work, work.count, True)
         return max((count for name, count in counts.items() if name.startswith(function)), default=None)
+
+    def stored(self, work):
+        """The instructions of memset in a run. It repeats one instruction, which is counted once a byte."""
+        counts = self.functions(work, work.count)
+        return sum(count for name, count in counts.items() if name.startswith("__memset"))

@@ -7,7 +7,7 @@ from parts.speed.scripts import SCRIPT_LINES, SEED, SERIAL
 from parts.speed.timing import CLOCK, Side, Work, alone, sides_in_turn, taken
 
 UNLOCKS = 4
-CALLS = "mount_shared::mount::Mount::answer"
+CALLS = "mount_shared::answers::answer"
 
 
 class WholeRuns:
@@ -80,13 +80,14 @@ class WholeRuns:
         return self.work(SERIAL, self.path("lines-%d" % lines, scripts.key_statuses(lines)))
 
     def line(self, counter):
-        """A line of a script in instructions, beside those of the mount's calls alone."""
+        """A line of a script in instructions, without those of memset, beside those of the mount's calls
+        alone."""
         if not self.wants("script-line"):
             return
         full, none = (self.line_work(lines) for lines in (SCRIPT_LINES, 1))
         calls = SCRIPT_LINES - 1
-        inside = counter.inside(full, CALLS)
-        self.rows.row("script-line", (counter.work(full) - counter.work(none)) / calls, "instr", 0,
+        inside, stored = counter.inside(full, CALLS), counter.stored(full)
+        self.rows.row("script-line", (counter.work(full) - stored - counter.work(none)) / calls, "instr", 0,
                       "calls-alone", inside and inside / calls, tables.LINE_GOAL)
 
 
